@@ -1,13 +1,17 @@
-// A library with one function.
+//! Addresses, stops and hosts: what every crate above stands on.
+//! Its specifications hold the plain data that several crates speak of: memory, registers and contexts, the items of a trace and the kernel's state.
 #![tactic(auto)]
 
-ghost use Rattle.std.specs.Prelude.{◌≡◌};
-ghost use Rattle.psx_base.specs.Echo.{echo_of};
+pub mod address;
+pub mod host;
+pub mod memory_host;
+pub mod no_fail_host;
+pub mod ports;
+pub mod stop;
 
-// The `ensures` clause is the contract: what `echo` returns is `echo_of` of its argument, a definition
-// in `specs/Echo.antt`, which a caller's clause can cite too.
-pub fn echo(x: usize) -> usize
-    ensures { result ≡ echo_of x }
-{
-    x
-}
+pub use address::{Addr, Gate, Segment, first_bad};
+pub use host::{Host, LoadError, Out, SendError};
+pub use memory_host::MemoryHost;
+pub use no_fail_host::NoFailHost;
+pub use ports::is_port;
+pub use stop::{Memory, Sizes, Stop, Table};
