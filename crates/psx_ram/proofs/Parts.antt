@@ -1,6 +1,7 @@
 -- The memory of the three parts: what is read at an address of each, and what a write to a part is.
-use Rattle.std.proofs.Common.{◌≡◌, ℕ, ◌+◌, ◌-◌, ◌*◌, ◌^◌, ◌<◌, ◌≤◌, List, length, get_or, set, ap, sym, ◌∙◌, arith, inl}
-use Rattle.psx_base.specs.Memory.{Memory, no_bytes, byte, word, put_byte, put_bytes}
+use Rattle.std.proofs.Common.{◌≡◌, ℕ, ◌+◌, ◌-◌, ◌*◌, ◌/◌, ◌%◌, ◌^◌, ◌<◌, ◌≤◌, List, length, get_or, set, refl, ap, sym, ◌∙◌, arith, inl}
+use Rattle.std.proofs.Math.ListN.{length-set}
+use Rattle.psx_base.specs.Memory.{Memory, no_bytes, byte, word, put_byte, put_bytes, put_word}
 use Rattle.psx_ram.specs.Parts.{of_parts}
 use Rattle.psx_ram.proofs.Bytes.{byte-put_bytes, byte-put_bytes_apart, put_bytes-set, put_byte-put_bytes_apart}
 
@@ -61,8 +62,45 @@ set_main m s r i v l h =
     ∙ ap (λ k. put_bytes k 0x1FC00000 r) (sym (put_byte-put_bytes_apart (put_bytes no_bytes 0 m) 0x1F800000 s i v (inl (omega arith))))
     ∙ sym (put_byte-put_bytes_apart (put_bytes (put_bytes no_bytes 0 m) 0x1F800000 s) 0x1FC00000 r i v (inl (omega arith)))
 
-pub set_scratchpad : (m s r : List ℕ) (i v : ℕ) → length s ≤ 0x400000 → i < length s → of_parts m (set s i v) r ≡ put_byte (of_parts m s r) (0x1F800000 + i) v
+pub set_scratchpad : (m s r : List ℕ) (i q v : ℕ) → length s ≤ 0x400000 → i < length s → q ≡ 0x1F800000 + i
+    → of_parts m (set s i v) r ≡ put_byte (of_parts m s r) q v
 unfolding of_parts
-set_scratchpad m s r i v l h =
+set_scratchpad m s r i q v l h e =
     ap (λ k. put_bytes k 0x1FC00000 r) (put_bytes-set (put_bytes no_bytes 0 m) 0x1F800000 s i v h)
     ∙ sym (put_byte-put_bytes_apart (put_bytes (put_bytes no_bytes 0 m) 0x1F800000 s) 0x1FC00000 r (0x1F800000 + i) v (inl (omega arith)))
+    ∙ ap (λ k. put_byte (put_bytes (put_bytes (put_bytes no_bytes 0 m) 0x1F800000 s) 0x1FC00000 r) k v) (sym e)
+
+-- ---- four bytes written
+
+-- a list with a number in four of its places
+abbrev pub with_four : List ℕ → ℕ → ℕ → List ℕ
+with_four xs i v = set (set (set (set xs i (v % 2 ^ 8)) (i + 1) (v / 2 ^ 8 % 2 ^ 8)) (i + 2) (v / 2 ^ 16 % 2 ^ 8)) (i + 3) (v / 2 ^ 24)
+
+pub put_word_main : (m s r : List ℕ) (i v : ℕ) → length m ≤ 0x1F800000 → i + 4 ≤ length m → of_parts (with_four m i v) s r ≡ put_word (of_parts m s r) i v
+unfolding put_word
+put_word_main m s r i v l h =
+    let m0 = set m i (v % 2 ^ 8) in
+    let m1 = set m0 (i + 1) (v / 2 ^ 8 % 2 ^ 8) in
+    let m2 = set m1 (i + 2) (v / 2 ^ 16 % 2 ^ 8) in
+    let l0 : length m0 ≡ length m = length-set m i (v % 2 ^ 8) in
+    let l1 : length m1 ≡ length m0 = length-set m0 (i + 1) (v / 2 ^ 8 % 2 ^ 8) in
+    let l2 : length m2 ≡ length m1 = length-set m1 (i + 2) (v / 2 ^ 16 % 2 ^ 8) in
+    set_main m2 s r (i + 3) (v / 2 ^ 24) (omega arith) (omega arith)
+    ∙ ap (λ k. put_byte k (i + 3) (v / 2 ^ 24)) (set_main m1 s r (i + 2) (v / 2 ^ 16 % 2 ^ 8) (omega arith) (omega arith)
+    ∙ ap (λ k. put_byte k (i + 2) (v / 2 ^ 16 % 2 ^ 8)) (set_main m0 s r (i + 1) (v / 2 ^ 8 % 2 ^ 8) (omega arith) (omega arith)
+    ∙ ap (λ k. put_byte k (i + 1) (v / 2 ^ 8 % 2 ^ 8)) (set_main m s r i (v % 2 ^ 8) l (omega arith))))
+
+pub put_word_scratchpad : (m s r : List ℕ) (i v : ℕ) → length s ≤ 0x400000 → i + 4 ≤ length s
+    → of_parts m (with_four s i v) r ≡ put_word (of_parts m s r) (0x1F800000 + i) v
+unfolding put_word
+put_word_scratchpad m s r i v l h =
+    let s0 = set s i (v % 2 ^ 8) in
+    let s1 = set s0 (i + 1) (v / 2 ^ 8 % 2 ^ 8) in
+    let s2 = set s1 (i + 2) (v / 2 ^ 16 % 2 ^ 8) in
+    let l0 : length s0 ≡ length s = length-set s i (v % 2 ^ 8) in
+    let l1 : length s1 ≡ length s0 = length-set s0 (i + 1) (v / 2 ^ 8 % 2 ^ 8) in
+    let l2 : length s2 ≡ length s1 = length-set s1 (i + 2) (v / 2 ^ 16 % 2 ^ 8) in
+    set_scratchpad m s2 r (i + 3) (0x1F800000 + i + 3) (v / 2 ^ 24) (omega arith) (omega arith) (omega arith)
+    ∙ ap (λ k. put_byte k (0x1F800000 + i + 3) (v / 2 ^ 24)) (set_scratchpad m s1 r (i + 2) (0x1F800000 + i + 2) (v / 2 ^ 16 % 2 ^ 8) (omega arith) (omega arith) (omega arith)
+    ∙ ap (λ k. put_byte k (0x1F800000 + i + 2) (v / 2 ^ 16 % 2 ^ 8)) (set_scratchpad m s0 r (i + 1) (0x1F800000 + i + 1) (v / 2 ^ 8 % 2 ^ 8) (omega arith) (omega arith) (omega arith)
+    ∙ ap (λ k. put_byte k (0x1F800000 + i + 1) (v / 2 ^ 8 % 2 ^ 8)) (set_scratchpad m s r i (0x1F800000 + i) (v % 2 ^ 8) l (omega arith) refl)))

@@ -62,6 +62,17 @@ fn word_in(bytes: &[u8], i: usize) -> u32
     low + bytes[i + 2] as u32 * 0x1_0000 + bytes[i + 3] as u32 * 0x100_0000
 }
 
+// Writes a number as four bytes of a slice.
+fn set_word_in(bytes: &mut [u8], i: usize, value: u32)
+    requires { i + 4 ≤ length bytes.old }
+    ensures { bytes.new ≡ slice_set (slice_set (slice_set (slice_set bytes.old i (value % 2 ^ 8)) (i + 1) (value / 2 ^ 8 % 2 ^ 8)) (i + 2) (value / 2 ^ 16 % 2 ^ 8)) (i + 3) (value / 2 ^ 24) }
+{
+    bytes[i] = (value % 0x100) as u8;
+    bytes[i + 1] = (value / 0x100 % 0x100) as u8;
+    bytes[i + 2] = (value / 0x1_0000 % 0x100) as u8;
+    bytes[i + 3] = (value / 0x100_0000) as u8;
+}
+
 impl Ram {
     /// The memory as the board begins with it: the ROM's bytes at 1FC00000h on, and every other byte 0.
     pub fn new(alloc: Global, rom: &[u8]) -> Result<Ram, Memory>
@@ -150,17 +161,17 @@ impl Ram {
     }
 
     /// Writes a number as four bytes from a mapped address on that 4 divides and that isn't in the ROM.
-    #[tactic(auto, unfolding(psx_base::specs::Memory::put_word))]
     pub fn set_word(&mut self, at: u32, value: u32)
         requires mapped { IsTrue (is_mapped at 4) }
         requires aligned { at % 4 ≡ 0 }
         requires writable { at < 0x1FC00000 }
         ensures { self.new ≡ put_word self.old at value }
     {
-        self.set_byte(at, (value % 0x100) as u8);
-        self.set_byte(at + 1, (value / 0x100 % 0x100) as u8);
-        self.set_byte(at + 2, (value / 0x1_0000 % 0x100) as u8);
-        self.set_byte(at + 3, (value / 0x100_0000) as u8);
+        if at < 0x20_0000 {
+            set_word_in(&mut self.main, at as usize, value);
+        } else {
+            set_word_in(&mut self.scratchpad, (at - 0x1F80_0000) as usize, value);
+        }
     }
 
     /// Writes bytes from a mapped address on that isn't in the ROM.
