@@ -2,6 +2,7 @@
 use Rattle.std.proofs.Common.{◌≡◌, ℕ, ◌+◌, ◌-◌, ◌*◌, ◌/◌, ◌%◌, ◌^◌, ◌<◌, ◌≤◌, List, length, get_or, set, refl, ap, sym, ◌∙◌, arith, inl}
 use Rattle.std.proofs.Math.ListN.{length-set}
 use Rattle.psx_base.specs.Memory.{Memory, no_bytes, byte, word, put_byte, put_bytes, put_word}
+use Rattle.psx_ram.specs.Words.{word_at, with_word}
 use Rattle.psx_ram.specs.Parts.{of_parts}
 use Rattle.psx_ram.proofs.Bytes.{byte-put_bytes, byte-put_bytes_apart, put_bytes-set, put_byte-put_bytes_apart}
 
@@ -28,27 +29,23 @@ byte_rom m s r q i e h =
     byte-put_bytes (put_bytes (put_bytes no_bytes 0 m) 0x1F800000 s) 0x1FC00000 r q (omega arith) (omega arith)
     ∙ ap (λ k. get_or r k 0) {x = q - 0x1FC00000} {y = i} (omega arith)
 
--- the number of four bytes of a list
-abbrev pub four : List ℕ → ℕ → ℕ
-four xs i = get_or xs i 0 + get_or xs (i + 1) 0 * 2 ^ 8 + get_or xs (i + 2) 0 * 2 ^ 16 + get_or xs (i + 3) 0 * 2 ^ 24
-
-word_of : (m : Memory) (q : ℕ) (xs : List ℕ) (i : ℕ)
+pub word_of : (m : Memory) (q : ℕ) (xs : List ℕ) (i : ℕ)
     → byte m q ≡ get_or xs i 0 → byte m (q + 1) ≡ get_or xs (i + 1) 0 → byte m (q + 2) ≡ get_or xs (i + 2) 0 → byte m (q + 3) ≡ get_or xs (i + 3) 0
-    → four xs i ≡ word m q
+    → word_at xs i ≡ word m q
 unfolding word
 word_of m q xs i a b c d = sym (λ k. a k + b k * 2 ^ 8 + c k * 2 ^ 16 + d k * 2 ^ 24)
 
-pub word_main : (m s r : List ℕ) (q : ℕ) → length m ≤ 0x1F800000 → q + 4 ≤ length m → four m q ≡ word (of_parts m s r) q
+pub word_main : (m s r : List ℕ) (q : ℕ) → length m ≤ 0x1F800000 → q + 4 ≤ length m → word_at m q ≡ word (of_parts m s r) q
 word_main m s r q l h =
     word_of (of_parts m s r) q m q (byte_main m s r q l (omega arith)) (byte_main m s r (q + 1) l (omega arith))
     (byte_main m s r (q + 2) l (omega arith)) (byte_main m s r (q + 3) l (omega arith))
 
-pub word_scratchpad : (m s r : List ℕ) (q i : ℕ) → length s ≤ 0x400000 → q ≡ 0x1F800000 + i → i + 4 ≤ length s → four s i ≡ word (of_parts m s r) q
+pub word_scratchpad : (m s r : List ℕ) (q i : ℕ) → length s ≤ 0x400000 → q ≡ 0x1F800000 + i → i + 4 ≤ length s → word_at s i ≡ word (of_parts m s r) q
 word_scratchpad m s r q i l e h =
     word_of (of_parts m s r) q s i (byte_scratchpad m s r q i l e (omega arith)) (byte_scratchpad m s r (q + 1) (i + 1) l (omega arith) (omega arith))
     (byte_scratchpad m s r (q + 2) (i + 2) l (omega arith) (omega arith)) (byte_scratchpad m s r (q + 3) (i + 3) l (omega arith) (omega arith))
 
-pub word_rom : (m s r : List ℕ) (q i : ℕ) → q ≡ 0x1FC00000 + i → i + 4 ≤ length r → four r i ≡ word (of_parts m s r) q
+pub word_rom : (m s r : List ℕ) (q i : ℕ) → q ≡ 0x1FC00000 + i → i + 4 ≤ length r → word_at r i ≡ word (of_parts m s r) q
 word_rom m s r q i e h =
     word_of (of_parts m s r) q r i (byte_rom m s r q i e (omega arith)) (byte_rom m s r (q + 1) (i + 1) (omega arith) (omega arith))
     (byte_rom m s r (q + 2) (i + 2) (omega arith) (omega arith)) (byte_rom m s r (q + 3) (i + 3) (omega arith) (omega arith))
@@ -72,11 +69,7 @@ set_scratchpad m s r i q v l h e =
 
 -- ---- four bytes written
 
--- a list with a number in four of its places
-abbrev pub with_four : List ℕ → ℕ → ℕ → List ℕ
-with_four xs i v = set (set (set (set xs i (v % 2 ^ 8)) (i + 1) (v / 2 ^ 8 % 2 ^ 8)) (i + 2) (v / 2 ^ 16 % 2 ^ 8)) (i + 3) (v / 2 ^ 24)
-
-pub put_word_main : (m s r : List ℕ) (i v : ℕ) → length m ≤ 0x1F800000 → i + 4 ≤ length m → of_parts (with_four m i v) s r ≡ put_word (of_parts m s r) i v
+pub put_word_main : (m s r : List ℕ) (i v : ℕ) → length m ≤ 0x1F800000 → i + 4 ≤ length m → of_parts (with_word m i v) s r ≡ put_word (of_parts m s r) i v
 unfolding put_word
 put_word_main m s r i v l h =
     let m0 = set m i (v % 2 ^ 8) in
@@ -91,7 +84,7 @@ put_word_main m s r i v l h =
     ∙ ap (λ k. put_byte k (i + 1) (v / 2 ^ 8 % 2 ^ 8)) (set_main m s r i (v % 2 ^ 8) l (omega arith))))
 
 pub put_word_scratchpad : (m s r : List ℕ) (i v : ℕ) → length s ≤ 0x400000 → i + 4 ≤ length s
-    → of_parts m (with_four s i v) r ≡ put_word (of_parts m s r) (0x1F800000 + i) v
+    → of_parts m (with_word s i v) r ≡ put_word (of_parts m s r) (0x1F800000 + i) v
 unfolding put_word
 put_word_scratchpad m s r i v l h =
     let s0 = set s i (v % 2 ^ 8) in

@@ -3,8 +3,9 @@
 //! The processor fetches, loads and stores by it, and the board fills it.
 #![tactic(auto)]
 
-ghost use Rattle.std.specs.Prelude.{◌≡◌, ℕ, List, ◌+◌, ◌-◌, ◌*◌, ◌/◌, ◌%◌, ◌^◌, ◌<◌, ◌≤◌, length, slice_index, slice_set, IsTrue, IfOk, nat_le, replicate, if◌then◌else◌};
+ghost use Rattle.std.specs.Prelude.{◌≡◌, ℕ, ◌+◌, ◌%◌, ◌<◌, ◌≤◌, length, slice_index, IsTrue, IfOk, replicate};
 ghost use Rattle.psx_base.specs.Memory.{byte, half, word, put_byte, put_half, put_word, put_bytes, is_mapped};
+ghost use Rattle.psx_ram.specs.Words.{word_at, with_word};
 ghost use Rattle.psx_ram.specs.Parts.{zeros, reset_memory};
 
 pub mod memory;
@@ -56,7 +57,7 @@ fn zeroed(alloc: Global, count: usize) -> Result<Vec<u8>, AllocError>
 // The number of four bytes of a slice.
 fn word_in(bytes: &[u8], i: usize) -> u32
     requires { i + 4 ≤ length bytes.now }
-    ensures { result ≡ slice_index bytes.now i + slice_index bytes.now (i + 1) * 2 ^ 8 + slice_index bytes.now (i + 2) * 2 ^ 16 + slice_index bytes.now (i + 3) * 2 ^ 24 }
+    ensures { result ≡ word_at bytes.now i }
 {
     let low = bytes[i] as u32 + bytes[i + 1] as u32 * 0x100;
     low + bytes[i + 2] as u32 * 0x1_0000 + bytes[i + 3] as u32 * 0x100_0000
@@ -65,7 +66,7 @@ fn word_in(bytes: &[u8], i: usize) -> u32
 // Writes a number as four bytes of a slice.
 fn set_word_in(bytes: &mut [u8], i: usize, value: u32)
     requires { i + 4 ≤ length bytes.old }
-    ensures { bytes.new ≡ slice_set (slice_set (slice_set (slice_set bytes.old i (value % 2 ^ 8)) (i + 1) (value / 2 ^ 8 % 2 ^ 8)) (i + 2) (value / 2 ^ 16 % 2 ^ 8)) (i + 3) (value / 2 ^ 24) }
+    ensures { bytes.new ≡ with_word bytes.old i value }
 {
     bytes[i] = (value % 0x100) as u8;
     bytes[i + 1] = (value / 0x100 % 0x100) as u8;
@@ -82,6 +83,7 @@ impl Ram {
         Ram::reset(alloc, rom).map_err(|_| Memory)
     }
 
+    // The same, with std's error.
     fn reset(alloc: Global, rom: &[u8]) -> Result<Ram, AllocError>
         requires { length rom.now ≡ 0x80000 }
         ensures { IfOk result (λ ram. ram ≡ reset_memory rom.now) }
@@ -212,3 +214,6 @@ impl Ram {
         &self.scratchpad
     }
 }
+
+#[cfg(test)]
+mod tests;

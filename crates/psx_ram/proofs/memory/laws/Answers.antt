@@ -1,6 +1,6 @@
 use Rattle.std.proofs.Common.{length}
 use Rattle.psx_ram.proofs.Laws as law
-use Rattle.psx_ram.proofs.Bytes.{byte-put_bytes_at, byte-put_bytes_apart}
+use Rattle.psx_ram.proofs.Bytes.{byte-put_bytes_at, byte-put_bytes_apart, word-put_bytes_at, word-put_bytes_apart}
 use Rattle.psx_ram.proofs.Reset.{byte-reset_memory}
 use Rattle.psx_ram.proofs.memory.laws.Goals as goal
 
@@ -20,5 +20,7 @@ returns c = record {
   byte_kept_by_word = law.byte-put_word_apart;
   bytes_same = byte-put_bytes_at;
   bytes_apart = λ m a xs b h. byte-put_bytes_apart m a xs b (law.outside_cases a (length xs) b h);
+  word_in_bytes = word-put_bytes_at;
+  word_beside_bytes = word-put_bytes_apart;
   reset = byte-reset_memory;
 }
