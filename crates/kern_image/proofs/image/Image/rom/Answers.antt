@@ -1,4 +1,3 @@
-use Rattle.std.proofs.Common.{◌≡◌, length}
 use Rattle.kern_image.proofs.RomLemmas.{length-rom}
 use Rattle.kern_image.proofs.image.Image.rom.Goals as goal
 
