@@ -13,9 +13,10 @@ use std::marker::Model;
 /// How many words the ROM has.
 const ROM_WORDS: u32 = 0x2_0000;
 
-/// Where the kernel's block begins in the ROM, and where it ends, counted in words.
+/// Where the kernel's block begins in the ROM, counted in words.
 const BLOCK_FROM: u32 = 0x4000;
 
+/// Where the kernel's block ends in the ROM, counted in words.
 const BLOCK_TO: u32 = 0x8000;
 
 /// The bytes of the ROM. Each image is the same one.
@@ -100,6 +101,7 @@ fn word_at(block: &KernelBlock, place: u32) -> u32
     0
 }
 
+// The bytes of the ROM, each word with its lowest byte first.
 fn bytes_of(alloc: Global, block: &KernelBlock) -> Result<Vec<u8>, AllocError>
     requires { Reads block.now BLOCK_WORDS kernel_word }
     ensures { IfOk result (λ v. Reads v.items 0x80000 rom_byte) }
@@ -112,6 +114,7 @@ fn bytes_of(alloc: Global, block: &KernelBlock) -> Result<Vec<u8>, AllocError>
     Ok(bytes)
 }
 
+// The image, with std's error.
 fn allocated(alloc: Global) -> Result<Image, AllocError> {
     let block = kernel(alloc)?;
     let bytes = bytes_of(alloc, &block)?;
