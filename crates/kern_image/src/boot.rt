@@ -1,5 +1,5 @@
 //! The words of the boot code, which the processor runs first, at the start of the ROM.
-//! Each line has the word, the low half of its address, and its assembly. No load is read by the instruction behind it (R3000A manual, load delay).
+//! Each line has the word, the low half of its address, and its assembly. The instruction behind a load neither reads nor writes its register (R3000A manual, load delay).
 
 /// The boot code: copies the kernel's 64 KB to main memory, reads the start ports and leaves to the program.
 ///

@@ -1,5 +1,5 @@
 //! The words of the exception vector, of the gates and of the entry code behind them.
-//! Each line has the word, the low half of its address, and its assembly. No load is read by the instruction behind it (R3000A manual, load delay).
+//! Each line has the word, the low half of its address, and its assembly. The instruction behind a load neither reads nor writes its register (R3000A manual, load delay).
 
 /// The exception vector at 80000080h: a jump to the entry code (R3000A manual, exception vectors).
 pub const VECTOR: [u32; 2] = [
