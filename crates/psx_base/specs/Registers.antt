@@ -37,7 +37,7 @@ pub record Registers : Type 0 where
   pub hi : ℕ
   pub lo : ℕ
 
-abbrev nth : List ℕ → ℕ → ℕ
+abbrev pub nth : List ℕ → ℕ → ℕ
 nth [] k = 0
 nth (x ∷ xs) zero = x
 nth (x ∷ xs) (suc k) = nth xs k
