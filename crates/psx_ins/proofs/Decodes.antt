@@ -81,8 +81,8 @@ by_code code funct fits =
     let p7 : w % 2 ^ 26 ≡ code * 64 + funct = omega arith in
     λ i. instruction_by (p0 i) (reg (p1 i)) (reg (p2 i)) (reg (p3 i)) (p4 i) (p5 i) (p6 i) (p7 i)
 
-joined_again : (code : ℕ) → (((code / 2 ^ 15) * 32 + code / 2 ^ 10 % 32) * 32 + code / 32 % 32) * 32 + code % 32 ≡ code
-joined_again code = omega arith
+code_again : (code : ℕ) → (((code / 2 ^ 15) * 32 + code / 2 ^ 10 % 32) * 32 + code / 32 % 32) * 32 + code % 32 ≡ code
+code_again code = omega arith
 
 -- the instruction that each instruction's word is taken apart to is that instruction
 pub decodes : (i : Ins) → IsTrue (fits_fields i) → instruction_of (word i) ≡ Some i
@@ -94,8 +94,8 @@ decodes (SRLV s t d) h = by_register 0x00 s t d 0 0x06 h
 decodes (SRAV s t d) h = by_register 0x00 s t d 0 0x07 h
 decodes (JR s) h = by_register 0x00 s unused unused 0 0x08 h
 decodes (JALR s d) h = by_register 0x00 s unused d 0 0x09 h
-decodes (SYSCALL code) h = by_code code 0x0C h ∙ ap (λ c. Some (SYSCALL c)) (joined_again code)
-decodes (BREAK code) h = by_code code 0x0D h ∙ ap (λ c. Some (BREAK c)) (joined_again code)
+decodes (SYSCALL code) h = by_code code 0x0C h ∙ ap (λ c. Some (SYSCALL c)) (code_again code)
+decodes (BREAK code) h = by_code code 0x0D h ∙ ap (λ c. Some (BREAK c)) (code_again code)
 decodes (MFHI d) h = by_register 0x00 unused unused d 0 0x10 h
 decodes (MTHI s) h = by_register 0x00 s unused unused 0 0x11 h
 decodes (MFLO d) h = by_register 0x00 unused unused d 0 0x12 h

@@ -3,7 +3,8 @@ ghost use Rattle.std.specs.Prelude.{◌≡◌, ◌+◌, ◌*◌, ◌<◌, ◌^�
 ghost use Rattle.psx_ins.specs.declared.form.Form.TheVariants.{Register, Immediate};
 ghost use Rattle.psx_ins.specs.Forms.{reg, form_word};
 ghost use Rattle.psx_ins.specs.Words.{word, fits_fields};
-ghost use Rattle.psx_ins.specs.Decoding.{if_zero, joined, special, on_sign, coprocessor, immediate, instruction_of};
+ghost use Rattle.psx_ins.specs.Special.{if_zero, code_by, special_by};
+ghost use Rattle.psx_ins.specs.Decoding.{sign_by, coprocessor_by, immediate_by, instruction_of};
 
 use crate::ins::Ins;
 use crate::reg::Reg;
@@ -21,16 +22,17 @@ fn only_if_zero(rest: u32, ins: Ins) -> Option<Ins>
 #[inline]
 fn code_of(s: Reg, t: Reg, d: Reg, n: u32) -> u32
     requires { (s.0 < 32) × (t.0 < 32) × (d.0 < 32) × (n < 32) }
-    ensures value { result ≡ joined s t d n }
+    ensures value { result ≡ code_by s t d n }
     ensures fits { result < 2 ^ 20 }
 {
     ((s.0 * 32 + t.0) * 32 + d.0) * 32 + n
 }
 
+// Op 00h.
 #[inline]
 fn special_instruction(s: Reg, t: Reg, d: Reg, n: u32, funct: u32) -> Option<Ins>
     requires { (s.0 < 32) × (t.0 < 32) × (d.0 < 32) × (n < 32) }
-    ensures value { result ≡ special s t d n funct }
+    ensures value { result ≡ special_by s t d n funct }
     ensures found { IfSome result (λ i. word i ≡ form_word (Register 0x00 s t d n funct)) }
     ensures fits { IfSome result (λ i. IsTrue (fits_fields i)) }
 {
@@ -71,10 +73,11 @@ fn special_instruction(s: Reg, t: Reg, d: Reg, n: u32, funct: u32) -> Option<Ins
     }
 }
 
+// Op 01h.
 #[inline]
 fn branch_on_sign(s: Reg, t: u32, imm: u16) -> Option<Ins>
     requires { s.0 < 32 }
-    ensures value { result ≡ on_sign s t imm }
+    ensures value { result ≡ sign_by s t imm }
     ensures found { IfSome result (λ i. word i ≡ form_word (Immediate 0x01 s (reg t) imm)) }
     ensures fits { IfSome result (λ i. IsTrue (fits_fields i)) }
 {
@@ -87,10 +90,11 @@ fn branch_on_sign(s: Reg, t: u32, imm: u16) -> Option<Ins>
     }
 }
 
+// Op 10h.
 #[inline]
 fn coprocessor_instruction(s: u32, t: Reg, d: Reg, n: u32, funct: u32) -> Option<Ins>
     requires { (t.0 < 32) × (d.0 < 32) × (n < 32) × (funct < 64) }
-    ensures value { result ≡ coprocessor s t d n funct }
+    ensures value { result ≡ coprocessor_by s t d n funct }
     ensures found { IfSome result (λ i. word i ≡ form_word (Register 0x10 (reg s) t d n funct)) }
     ensures fits { IfSome result (λ i. IsTrue (fits_fields i)) }
 {
@@ -102,10 +106,11 @@ fn coprocessor_instruction(s: u32, t: Reg, d: Reg, n: u32, funct: u32) -> Option
     }
 }
 
+// The ops from 04h on that carry 16 bits.
 #[inline]
 fn immediate_instruction(op: u32, s: Reg, t: Reg, imm: u16) -> Option<Ins>
     requires { (s.0 < 32) × (t.0 < 32) }
-    ensures value { result ≡ immediate op s t imm }
+    ensures value { result ≡ immediate_by op s t imm }
     ensures found { IfSome result (λ i. word i ≡ form_word (Immediate op s t imm)) }
     ensures fits { IfSome result (λ i. IsTrue (fits_fields i)) }
 {

@@ -12,6 +12,8 @@ mod decoding;
 pub mod form;
 pub mod ins;
 pub mod reg;
+#[cfg(test)]
+mod tests;
 
 use ins::Ins;
 
