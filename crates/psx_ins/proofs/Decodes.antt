@@ -8,20 +8,30 @@ use Rattle.psx_ins.specs.Forms.{reg, unused, form_word, form_fits}
 use Rattle.psx_ins.specs.Words.{word, fits_fields}
 use Rattle.psx_ins.specs.Decoding.{instruction_by, instruction_of}
 
-register_fits : (op s t d n funct : ℕ) → IsTrue (nat_lt op 64 && nat_lt funct 64 && nat_lt s 32 && nat_lt t 32 && nat_lt d 32 && nat_lt n 32) → (op < 64) × (s < 32) × (t < 32) × (d < 32) × (n < 32) × (funct < 64)
+register_fits : (op s t d n funct : ℕ) →
+    IsTrue (nat_lt op 64 && nat_lt funct 64 && nat_lt s 32 && nat_lt t 32 && nat_lt d 32 && nat_lt n 32) →
+    (op < 64) × (s < 32) × (t < 32) × (d < 32) × (n < 32) × (funct < 64)
 register_fits op s t d n funct h = grind arith
 
-immediate_fits : (op s t imm : ℕ) → IsTrue (nat_lt op 64 && nat_lt s 32 && nat_lt t 32 && nat_lt imm (2 ^ 16)) → (op < 64) × (s < 32) × (t < 32) × (imm < 2 ^ 16)
+immediate_fits : (op s t imm : ℕ) →
+    IsTrue (nat_lt op 64 && nat_lt s 32 && nat_lt t 32 && nat_lt imm (2 ^ 16)) →
+    (op < 64) × (s < 32) × (t < 32) × (imm < 2 ^ 16)
 immediate_fits op s t imm h = grind arith
 
 jump_fits : (op target : ℕ) → IsTrue (nat_lt op 64 && nat_lt target (2 ^ 26)) → (op < 64) × (target < 2 ^ 26)
 jump_fits op target h = grind arith
 
-code_fits : (code funct : ℕ) → IsTrue (nat_lt funct 64 && nat_lt code (2 ^ 20)) → (funct < 64) × (code < 2 ^ 20)
+code_fits : (code funct : ℕ) →
+    IsTrue (nat_lt funct 64 && nat_lt code (2 ^ 20)) →
+    (funct < 64) × (code < 2 ^ 20)
 code_fits code funct h = grind arith
 
 -- the fields of a word in each layout
-by_register_at : (op s t d n funct : ℕ) → (op < 64) × (s < 32) × (t < 32) × (d < 32) × (n < 32) × (funct < 64) → instruction_of (form_word (Register op (reg s) (reg t) (reg d) n funct)) ≡ instruction_by op (reg s) (reg t) (reg d) n funct (d * 2 ^ 11 + n * 2 ^ 6 + funct) (s * 2 ^ 21 + t * 2 ^ 16 + d * 2 ^ 11 + n * 2 ^ 6 + funct)
+by_register_at : (op s t d n funct : ℕ) →
+    (op < 64) × (s < 32) × (t < 32) × (d < 32) × (n < 32) × (funct < 64) →
+    instruction_of (form_word (Register op (reg s) (reg t) (reg d) n funct))
+    ≡ instruction_by op (reg s) (reg t) (reg d) n funct
+    (d * 2 ^ 11 + n * 2 ^ 6 + funct) (s * 2 ^ 21 + t * 2 ^ 16 + d * 2 ^ 11 + n * 2 ^ 6 + funct)
 by_register_at op s t d n funct h =
     let w : ℕ = op * 2 ^ 26 + s * 2 ^ 21 + t * 2 ^ 16 + d * 2 ^ 11 + n * 2 ^ 6 + funct in
     let p0 : w / 2 ^ 26 ≡ op = omega arith in
@@ -34,7 +44,11 @@ by_register_at op s t d n funct h =
     let p7 : w % 2 ^ 26 ≡ s * 2 ^ 21 + t * 2 ^ 16 + d * 2 ^ 11 + n * 2 ^ 6 + funct = omega arith in
     λ i. instruction_by (p0 i) (reg (p1 i)) (reg (p2 i)) (reg (p3 i)) (p4 i) (p5 i) (p6 i) (p7 i)
 
-by_immediate_at : (op s t imm : ℕ) → (op < 64) × (s < 32) × (t < 32) × (imm < 2 ^ 16) → instruction_of (form_word (Immediate op (reg s) (reg t) imm)) ≡ instruction_by op (reg s) (reg t) (reg (imm / 2 ^ 11)) (imm / 2 ^ 6 % 32) (imm % 64) imm (s * 2 ^ 21 + t * 2 ^ 16 + imm)
+by_immediate_at : (op s t imm : ℕ) →
+    (op < 64) × (s < 32) × (t < 32) × (imm < 2 ^ 16) →
+    instruction_of (form_word (Immediate op (reg s) (reg t) imm))
+    ≡ instruction_by op (reg s) (reg t) (reg (imm / 2 ^ 11)) (imm / 2 ^ 6 % 32) (imm % 64)
+    imm (s * 2 ^ 21 + t * 2 ^ 16 + imm)
 by_immediate_at op s t imm h =
     let w : ℕ = op * 2 ^ 26 + s * 2 ^ 21 + t * 2 ^ 16 + imm in
     let p0 : w / 2 ^ 26 ≡ op = omega arith in
@@ -47,13 +61,25 @@ by_immediate_at op s t imm h =
     let p7 : w % 2 ^ 26 ≡ s * 2 ^ 21 + t * 2 ^ 16 + imm = omega arith in
     λ i. instruction_by (p0 i) (reg (p1 i)) (reg (p2 i)) (reg (p3 i)) (p4 i) (p5 i) (p6 i) (p7 i)
 
-by_register : (op : ℕ) (s t d : Reg) (n funct : ℕ) → IsTrue (form_fits (Register op s t d n funct)) → instruction_of (form_word (Register op s t d n funct)) ≡ instruction_by op s t d n funct (d.0 * 2 ^ 11 + n * 2 ^ 6 + funct) (s.0 * 2 ^ 21 + t.0 * 2 ^ 16 + d.0 * 2 ^ 11 + n * 2 ^ 6 + funct)
+by_register : (op : ℕ) (s t d : Reg) (n funct : ℕ) →
+    IsTrue (form_fits (Register op s t d n funct)) →
+    instruction_of (form_word (Register op s t d n funct))
+    ≡ instruction_by op s t d n funct
+    (d.0 * 2 ^ 11 + n * 2 ^ 6 + funct) (s.0 * 2 ^ 21 + t.0 * 2 ^ 16 + d.0 * 2 ^ 11 + n * 2 ^ 6 + funct)
 by_register op s t d n funct h = by_register_at op s.0 t.0 d.0 n funct (register_fits op s.0 t.0 d.0 n funct h)
 
-by_immediate : (op : ℕ) (s t : Reg) (imm : ℕ) → IsTrue (form_fits (Immediate op s t imm)) → instruction_of (form_word (Immediate op s t imm)) ≡ instruction_by op s t (reg (imm / 2 ^ 11)) (imm / 2 ^ 6 % 32) (imm % 64) imm (s.0 * 2 ^ 21 + t.0 * 2 ^ 16 + imm)
+by_immediate : (op : ℕ) (s t : Reg) (imm : ℕ) →
+    IsTrue (form_fits (Immediate op s t imm)) →
+    instruction_of (form_word (Immediate op s t imm))
+    ≡ instruction_by op s t (reg (imm / 2 ^ 11)) (imm / 2 ^ 6 % 32) (imm % 64)
+    imm (s.0 * 2 ^ 21 + t.0 * 2 ^ 16 + imm)
 by_immediate op s t imm h = by_immediate_at op s.0 t.0 imm (immediate_fits op s.0 t.0 imm h)
 
-by_jump : (op target : ℕ) → IsTrue (form_fits (Jump op target)) → instruction_of (form_word (Jump op target)) ≡ instruction_by op (reg (target / 2 ^ 21)) (reg (target / 2 ^ 16 % 32)) (reg (target / 2 ^ 11 % 32)) (target / 2 ^ 6 % 32) (target % 64) (target % 2 ^ 16) target
+by_jump : (op target : ℕ) →
+    IsTrue (form_fits (Jump op target)) →
+    instruction_of (form_word (Jump op target))
+    ≡ instruction_by op (reg (target / 2 ^ 21)) (reg (target / 2 ^ 16 % 32)) (reg (target / 2 ^ 11 % 32)) (target / 2 ^ 6 % 32) (target % 64)
+    (target % 2 ^ 16) target
 by_jump op target fits =
     let h : (op < 64) × (target < 2 ^ 26) = jump_fits op target fits in
     let w : ℕ = op * 2 ^ 26 + target in
@@ -67,7 +93,11 @@ by_jump op target fits =
     let p7 : w % 2 ^ 26 ≡ target = omega arith in
     λ i. instruction_by (p0 i) (reg (p1 i)) (reg (p2 i)) (reg (p3 i)) (p4 i) (p5 i) (p6 i) (p7 i)
 
-by_code : (code funct : ℕ) → IsTrue (form_fits (Code code funct)) → instruction_of (form_word (Code code funct)) ≡ instruction_by 0 (reg (code / 2 ^ 15)) (reg (code / 2 ^ 10 % 32)) (reg (code / 32 % 32)) (code % 32) funct ((code * 64 + funct) % 2 ^ 16) (code * 64 + funct)
+by_code : (code funct : ℕ) →
+    IsTrue (form_fits (Code code funct)) →
+    instruction_of (form_word (Code code funct))
+    ≡ instruction_by 0 (reg (code / 2 ^ 15)) (reg (code / 2 ^ 10 % 32)) (reg (code / 32 % 32)) (code % 32) funct
+    ((code * 64 + funct) % 2 ^ 16) (code * 64 + funct)
 by_code code funct fits =
     let h : (funct < 64) × (code < 2 ^ 20) = code_fits code funct fits in
     let w : ℕ = code * 2 ^ 6 + funct in

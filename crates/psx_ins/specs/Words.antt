@@ -6,7 +6,8 @@ use Rattle.psx_ins.specs.declared.form.Form.{Form}
 use Rattle.psx_ins.specs.declared.form.Form.TheVariants.{Register, Immediate, Jump, Code}
 use Rattle.psx_ins.specs.Forms.{reg, unused, form_word, form_fits}
 
--- the fields of an instruction's word: Register op s t d n funct, Immediate op s t imm, Jump op target, Code code funct
+-- the fields of an instruction's word:
+-- Register op s t d n funct, Immediate op s t imm, Jump op target, Code code funct
 abbrev pub form : Ins → Form
 form (SLL t d n) = Register 0x00 unused t d n 0x00
 form (SRL t d n) = Register 0x00 unused t d n 0x02

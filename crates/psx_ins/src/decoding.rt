@@ -1,5 +1,5 @@
 // An instruction from the fields of a word, one function for each kind of op.
-ghost use Rattle.std.specs.Prelude.{◌≡◌, ◌+◌, ◌*◌, ◌<◌, ◌^◌, IsTrue, IfSome};
+ghost use Rattle.std.specs.Prelude.{◌≡◌, ◌<◌, ◌^◌, IsTrue, IfSome};
 ghost use Rattle.psx_ins.specs.declared.form.Form.TheVariants.{Register, Immediate};
 ghost use Rattle.psx_ins.specs.Forms.{reg, form_word};
 ghost use Rattle.psx_ins.specs.Words.{word, fits_fields};

@@ -6,8 +6,8 @@ ghost use Rattle.psx_ins.specs.Words.{form};
 use crate::ins::Ins;
 use crate::reg::Reg;
 
-/// The fields of an instruction word, from the high bits down, in one of the layouts of the R3000A (manual, CPU instruction formats).
-/// A field that an instruction has no use for is 0.
+/// The fields of an instruction word, from the high bits down, in one of the layouts of the R3000A
+/// (manual, CPU instruction formats). A field that an instruction has no use for is 0.
 #[derive(Clone, Copy)]
 pub enum Form {
     /// op, s, t, d, n and funct, of 6, 5, 5, 5, 5 and 6 bits.

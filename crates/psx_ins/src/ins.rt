@@ -1,9 +1,11 @@
 use crate::reg::Reg;
 
-/// An instruction of the R3000A, in the order of its opcode table (R3000A manual, instruction set; PSX-SPX, CPU opcode encoding).
+/// An instruction of the R3000A, in the order of its opcode table (R3000A manual, instruction set;
+/// PSX-SPX, CPU opcode encoding).
 ///
-/// `s`, `t` and `d` are the registers of the word's bits 21 to 25, 16 to 20 and 11 to 15, `n` a shift below 32,
-/// `imm` the low 16 bits with no sign extended, `target` a jump's 26 bits and `code` the 20 bits that SYSCALL and BREAK carry.
+/// `s`, `t` and `d` are the registers of the word's bits 21 to 25, 16 to 20 and 11 to 15, `n` a shift
+/// below 32, `imm` the low 16 bits with no sign extended, `target` the 26 bits of a jump and `code` the
+/// 20 bits that SYSCALL and BREAK carry.
 #[derive(Clone, Copy, PartialEq, Eq)]
 pub enum Ins {
     // Op 00h, by funct.

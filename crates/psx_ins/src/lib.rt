@@ -1,7 +1,8 @@
 //! The instructions of the R3000A and their 32-bit words, both ways.
 //!
-//! `encode` gives the word of the instruction table (`specs/Words.antt`); `decode` gives the one instruction that has a word, or None
-//! where no instruction has it. The processor decodes by it, and the assembler and the printer encode and decode by it.
+//! `encode` gives the word of the instruction table (`specs/Words.antt`), and `decode` the one instruction
+//! that has a word, or None where no instruction has it. The processor decodes by it, and the assembler
+//! and the printer encode and decode by it.
 #![tactic(auto)]
 
 ghost use Rattle.std.specs.Prelude.{◌≡◌, ◌≢◌, IsTrue, Some, None, IfSome};
@@ -17,7 +18,8 @@ mod tests;
 
 use ins::Ins;
 
-/// Whether every register and shift is below 32, the target below 2^26 and the code below 2^20, so that the instruction has a word.
+/// Whether every register and shift is below 32, the target below 2^26 and the code below 2^20, so that
+/// the instruction has a word.
 pub fn fits(ins: Ins) -> bool
     ensures { result ≡ fits_fields ins }
 {

@@ -145,7 +145,8 @@ fn words_of_a_call_are_decoded(rt: HostRuntime) {
     goes_both_ways(&rt, 0x0140_f809, Ins::JALR { s, d });
 }
 
-// Functs and ops of no instruction, one unused bit set in each instruction that has one, and the coprocessors 1 to 3.
+// Functs and ops of no instruction, one unused bit set in each instruction that has one, and the
+// coprocessors 1 to 3.
 #[test]
 fn other_words_are_no_instruction(rt: HostRuntime) {
     let words = [
