@@ -32,6 +32,7 @@ by_register_at : (op s t d n funct : ℕ) →
     instruction_of (form_word (Register op (reg s) (reg t) (reg d) n funct))
     ≡ instruction_by op (reg s) (reg t) (reg d) n funct
     (d * 2 ^ 11 + n * 2 ^ 6 + funct) (s * 2 ^ 21 + t * 2 ^ 16 + d * 2 ^ 11 + n * 2 ^ 6 + funct)
+unfolding instruction_of
 by_register_at op s t d n funct h =
     let w : ℕ = op * 2 ^ 26 + s * 2 ^ 21 + t * 2 ^ 16 + d * 2 ^ 11 + n * 2 ^ 6 + funct in
     let p0 : w / 2 ^ 26 ≡ op = omega arith in
@@ -49,6 +50,7 @@ by_immediate_at : (op s t imm : ℕ) →
     instruction_of (form_word (Immediate op (reg s) (reg t) imm))
     ≡ instruction_by op (reg s) (reg t) (reg (imm / 2 ^ 11)) (imm / 2 ^ 6 % 32) (imm % 64)
     imm (s * 2 ^ 21 + t * 2 ^ 16 + imm)
+unfolding instruction_of
 by_immediate_at op s t imm h =
     let w : ℕ = op * 2 ^ 26 + s * 2 ^ 21 + t * 2 ^ 16 + imm in
     let p0 : w / 2 ^ 26 ≡ op = omega arith in
@@ -80,6 +82,7 @@ by_jump : (op target : ℕ) →
     instruction_of (form_word (Jump op target))
     ≡ instruction_by op (reg (target / 2 ^ 21)) (reg (target / 2 ^ 16 % 32)) (reg (target / 2 ^ 11 % 32)) (target / 2 ^ 6 % 32) (target % 64)
     (target % 2 ^ 16) target
+unfolding instruction_of
 by_jump op target fits =
     let h : (op < 64) × (target < 2 ^ 26) = jump_fits op target fits in
     let w : ℕ = op * 2 ^ 26 + target in
@@ -98,6 +101,7 @@ by_code : (code funct : ℕ) →
     instruction_of (form_word (Code code funct))
     ≡ instruction_by 0 (reg (code / 2 ^ 15)) (reg (code / 2 ^ 10 % 32)) (reg (code / 32 % 32)) (code % 32) funct
     ((code * 64 + funct) % 2 ^ 16) (code * 64 + funct)
+unfolding instruction_of
 by_code code funct fits =
     let h : (funct < 64) × (code < 2 ^ 20) = code_fits code funct fits in
     let w : ℕ = code * 2 ^ 6 + funct in

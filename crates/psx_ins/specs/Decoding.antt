@@ -64,7 +64,7 @@ instruction_by op s t d n funct imm target =
     immediate_by op s t imm
 
 -- by the word
-abbrev pub instruction_of : ℕ → Option Ins
+unfoldable pub instruction_of : ℕ → Option Ins
 instruction_of bits =
     instruction_by (bits / 2 ^ 26)
     (reg (bits / 2 ^ 21 % 32)) (reg (bits / 2 ^ 16 % 32)) (reg (bits / 2 ^ 11 % 32)) (bits / 2 ^ 6 % 32) (bits % 64)

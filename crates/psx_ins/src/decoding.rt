@@ -145,6 +145,7 @@ fn immediate_instruction(op: u32, s: Reg, t: Reg, imm: u16) -> Option<Ins>
 
 // The instruction that has this word, by its fields.
 #[inline]
+#[tactic(auto, unfolding(crate::specs::Decoding::instruction_of))]
 pub fn by_fields(bits: u32) -> Option<Ins>
     ensures value { result ≡ instruction_of bits }
     ensures found { IfSome result (λ i. word i ≡ bits) }

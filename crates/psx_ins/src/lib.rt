@@ -7,6 +7,7 @@
 
 ghost use Rattle.std.specs.Prelude.{◌≡◌, ◌≢◌, IsTrue, Some, None, IfSome};
 ghost use Rattle.psx_ins.specs.declared.ins.Ins.{Ins as Instruction};
+ghost use Rattle.psx_ins.specs.Decoding.{instruction_of};
 ghost use Rattle.psx_ins.specs.Words.{word, fits_fields};
 
 mod decoding;
@@ -36,6 +37,7 @@ pub fn encode(ins: Ins) -> u32
 
 /// The one instruction that has this word. A word whose unused fields are not all 0 is no instruction.
 pub fn decode(bits: u32) -> Option<Ins>
+    ensures value { result ≡ instruction_of bits }
     ensures found { IfSome result (λ i. (word i ≡ bits) × IsTrue (fits_fields i)) }
     ensures none { result ≡ None → (i : Instruction) → IsTrue (fits_fields i) → word i ≢ bits }
 
