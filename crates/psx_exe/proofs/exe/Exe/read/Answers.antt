@@ -1,0 +1,17 @@
+use Rattle.std.proofs.Common.{arith, ◌≡◌, ◌≤◌, ◌+◌, length, None, sym, ap, ◌∙◌, rules}
+use Rattle.psx_exe.specs.declared.header.Header.{Header}
+use Rattle.psx_exe.specs.Faults.{first_fault}
+use Rattle.psx_exe.proofs.Accepted.{accepted}
+use Rattle.psx_exe.proofs.exe.Exe.read.Goals as goal
+
+pub of-header-requires : goal.of-header-requires
+of-header-requires c =
+    let h = accepted c.args.bytes.now (sym c.fault.ensures ∙ c.in_default.is) in
+    omega (arith, h.header)
+
+pub slice_bounds-from_slice-end : goal.slice_bounds-from_slice-end
+slice_bounds-from_slice-end c =
+    let h = accepted c.args.bytes.now (sym c.fault.ensures ∙ c.in_default.is) in
+    let same = ap (λ (h : Header). h.size) c.of-header.ensures in
+    let whole : 0x800 + c.of-header.result.size ≤ length c.args.bytes.now = omega (arith, h.sound.whole, same) in
+    search rules

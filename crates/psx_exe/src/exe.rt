@@ -1,0 +1,61 @@
+//! A program, as a file holds it.
+ghost use Rattle.std.specs.Prelude.{◌≡◌, ◌⊎◌, Ok, Err, IfOk, IfErr};
+
+use crate::fault::{ExeError, HEADER_SIZE, fault};
+use crate::header::Header;
+use crate::text::Text;
+use std::alloc::Global;
+
+/// A program: the numbers of its header, and its text.
+///
+/// All numbers but `fill_size` are virtual addresses, or parts of one.
+#[derive(Drop)]
+pub struct Exe {
+    /// The address of the first instruction.
+    pub pc: u32,
+    /// The first value of gp.
+    pub gp: u32,
+    /// Where the text is placed.
+    pub dest: u32,
+    /// Where zeros are placed, after the text.
+    pub fill_start: u32,
+    /// How many zeros.
+    pub fill_size: u32,
+    /// The stack's top, with the offset added; 0 for the system's own.
+    pub sp_base: u32,
+    pub sp_offset: u32,
+    /// The bytes that are placed.
+    pub text: Text,
+}
+
+impl Exe {
+    ghost use Rattle.psx_exe.specs.Reading.{read_of};
+    ghost use Rattle.psx_exe.specs.declared.fault.ExeError.{ExeError};
+
+    /// The program that a file is, or the file's first fault. `Memory` comes only for a file without a fault.
+    #[tactic(auto, unfolding(crate::specs::Reading::read_of))]
+    pub fn read(alloc: Global, bytes: &[u8]) -> Result<Exe, ExeError>
+        ensures program { IfOk result (λ exe. read_of bytes.now ≡ Ok exe) }
+        ensures fault { IfErr (read_of bytes.now) (λ fault. result ≡ Err fault) }
+        ensures first { IfErr result (λ e. (e ≡ ExeError.Memory) ⊎ (read_of bytes.now ≡ Err e)) }
+    {
+        if let Some(fault) = fault(bytes) {
+            return Err(fault);
+        }
+        let header = Header::of(bytes);
+        let end = HEADER_SIZE + header.size as usize;
+        match Text::from_slice(alloc, &bytes[HEADER_SIZE..end]) {
+            Ok(text) => Ok(Exe {
+                pc: header.pc,
+                gp: header.gp,
+                dest: header.dest,
+                fill_start: header.fill_start,
+                fill_size: header.fill_size,
+                sp_base: header.sp_base,
+                sp_offset: header.sp_offset,
+                text,
+            }),
+            Err(_) => Err(ExeError::Memory),
+        }
+    }
+}
