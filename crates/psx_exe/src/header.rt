@@ -1,7 +1,10 @@
 //! The numbers of a program's header.
-ghost use Rattle.std.specs.Prelude.{◌≡◌, ◌≤◌, length};
+ghost use Rattle.std.specs.Prelude.{◌≡◌, ◌≤◌, ◌++◌, ◌+◌, IfOk, OnOk, length, vec_len};
+ghost use Rattle.byteorder.specs.Endian.{little_bytes};
 
+use crate::fault::{HEADER_SIZE, MARK};
 use byteorder::{ByteOrder, LittleEndian};
+use std::alloc::{AllocError, Global};
 
 /// The numbers of a header, in the order in which they stand in the file.
 #[derive(Clone, Copy, PartialEq, Eq, Debug)]
@@ -18,6 +21,7 @@ pub struct Header {
 
 impl Header {
     ghost use Rattle.psx_exe.specs.Header.{header_of};
+    ghost use Rattle.psx_exe.specs.Writing.{named_bytes, padding};
 
     /// The numbers that stand in a file's first bytes.
     #[tactic(auto, unfolding(crate::specs::Header::header_of))]
@@ -36,4 +40,41 @@ impl Header {
             sp_offset: LittleEndian::read_u32(&bytes[0x34..]),
         }
     }
+    // The header's bytes: mark and numbers at their places, and 0 elsewhere.
+    pub fn bytes(self, alloc: Global) -> Result<Vec<u8>, AllocError>
+        ensures { IfOk result (λ v. v.items ≡ named_bytes self ++ padding) }
+    {
+        let mut out = self.named_bytes(alloc)?;
+        out.resize(HEADER_SIZE, 0)?;
+        Ok(out)
+    }
+
+    // The header's bytes up to the last number.
+    fn named_bytes(self, alloc: Global) -> Result<Vec<u8>, AllocError>
+        ensures bytes { IfOk result (λ v. v.items ≡ named_bytes self) }
+        ensures len { IfOk result (λ v. vec_len v ≡ 0x38) }
+    {
+        let mut out = Vec::from_slice(alloc, MARK)?;
+        out.extend_from_slice(&[0; 8])?;
+        push_number(&mut out, self.pc)?;
+        push_number(&mut out, self.gp)?;
+        push_number(&mut out, self.dest)?;
+        push_number(&mut out, self.size)?;
+        out.extend_from_slice(&[0; 8])?;
+        push_number(&mut out, self.fill_start)?;
+        push_number(&mut out, self.fill_size)?;
+        push_number(&mut out, self.sp_base)?;
+        push_number(&mut out, self.sp_offset)?;
+        Ok(out)
+    }
+}
+
+// Appends a number in four bytes.
+fn push_number(out: &mut Vec<u8>, number: u32) -> Result<(), AllocError>
+    ensures bytes { OnOk result (out.new.items ≡ out.old.items ++ little_bytes 4 number) }
+    ensures len { OnOk result (vec_len out.new ≡ vec_len out.old + 4) }
+{
+    let mut bytes = [0; 4];
+    LittleEndian::write_u32(&mut bytes, number);
+    out.extend_from_slice(&bytes)
 }

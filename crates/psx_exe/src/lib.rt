@@ -3,10 +3,10 @@
 //! The board starts from its programs, and the top call reports its errors.
 #![tactic(auto)]
 
-pub mod exe;
-pub mod fault;
-pub mod header;
-pub mod text;
+mod exe;
+mod fault;
+mod header;
+mod text;
 
 pub use exe::Exe;
 pub use fault::ExeError;
