@@ -10,19 +10,8 @@ use Rattle.psx_exe.specs.declared.exe.Exe.{Exe}
 use Rattle.psx_exe.specs.declared.fault.ExeError.{ExeError}
 use Rattle.psx_exe.specs.Faults.{mark, first_fault}
 use Rattle.psx_exe.specs.Reading.{program_of, text_of, read_of}
-use Rattle.psx_exe.specs.Writing.{named_bytes, padding, header_for, written}
+use Rattle.psx_exe.specs.Writing.{IsSmall, named_bytes, padding, header_for, written}
 use Rattle.psx_exe.proofs.Accepted.{IsAccepted, IsSound, accepted, accepted-none}
-
--- each number of a header fits its four bytes
-pub record IsSmall (h : Header) : Type 0 where
-  pub pc : h.pc < 2 ^ 32
-  pub gp : h.gp < 2 ^ 32
-  pub dest : h.dest < 2 ^ 32
-  pub size : h.size < 2 ^ 32
-  pub fill_start : h.fill_start < 2 ^ 32
-  pub fill_size : h.fill_size < 2 ^ 32
-  pub sp_base : h.sp_base < 2 ^ 32
-  pub sp_offset : h.sp_offset < 2 ^ 32
 
 -- a record of equal numbers
 same_header : (h k : Header) → h.pc ≡ k.pc → h.gp ≡ k.gp → h.dest ≡ k.dest → h.size ≡ k.size → h.fill_start ≡ k.fill_start → h.fill_size ≡ k.fill_size → h.sp_base ≡ k.sp_base → h.sp_offset ≡ k.sp_offset → h ≡ k
@@ -119,12 +108,12 @@ accepted-written q e s a same =
     let limit = a.limit in
     let whole = a.sound.whole in
     record {
-  limit = omega arith;
-  header = omega arith;
-  marked = marked-written e;
-  sound = subst (λ (h : Header). IsSound h (length (written e))) (sym of_file)
-    (subst (λ (h : Header). IsSound h (length (written e))) of_read (record { text = a.sound.text; whole = omega arith; fill = a.sound.fill; start = a.sound.start }));
-}
+      limit = omega arith;
+      header = omega arith;
+      marked = marked-written e;
+      sound = subst (λ (h : Header). IsSound h (length (written e))) (sym of_file)
+          (subst (λ (h : Header). IsSound h (length (written e))) of_read (record { text = a.sound.text; whole = omega arith; fill = a.sound.fill; start = a.sound.start }));
+    }
 
 -- it is read as the program
 written-program : (e : Exe) → IsSmall (header_for e) → program_of (header_of (written e)) (text_of (written e)) ≡ e

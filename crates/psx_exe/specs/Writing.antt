@@ -1,5 +1,5 @@
 -- The file that is made of a program: every byte of the header that has no name is 0.
-use Rattle.std.specs.Prelude.{ℕ, ◌-◌, List, [], ◌∷◌, ◌++◌, length, replicate}
+use Rattle.std.specs.Prelude.{ℕ, ◌-◌, ◌^◌, ◌<◌, List, [], ◌∷◌, ◌++◌, length, replicate}
 use Rattle.byteorder.specs.Endian.{little_bytes}
 use Rattle.psx_exe.specs.Faults.{mark, header_size}
 use Rattle.psx_exe.specs.declared.exe.Exe.{Exe}
@@ -34,6 +34,17 @@ header_for e = record {
   sp_base = e.sp_base;
   sp_offset = e.sp_offset;
 }
+
+-- each number of a header fits its four bytes
+pub record IsSmall (h : Header) : Type 0 where
+  pub pc : h.pc < 2 ^ 32
+  pub gp : h.gp < 2 ^ 32
+  pub dest : h.dest < 2 ^ 32
+  pub size : h.size < 2 ^ 32
+  pub fill_start : h.fill_start < 2 ^ 32
+  pub fill_size : h.fill_size < 2 ^ 32
+  pub sp_base : h.sp_base < 2 ^ 32
+  pub sp_offset : h.sp_offset < 2 ^ 32
 
 -- the file of a program
 unfoldable pub written : Exe → List ℕ

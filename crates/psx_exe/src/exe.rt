@@ -1,10 +1,11 @@
 //! A program, as a file holds it.
-ghost use Rattle.std.specs.Prelude.{◌≡◌, ◌⊎◌, Ok, Err, IfOk, IfErr};
+ghost use Rattle.std.specs.Prelude.{◌≡◌, ◌⊎◌, ◌<◌, ◌^◌, ℕ, List, Ok, Err, IfOk, IfErr, length};
 
 use crate::fault::{ExeError, HEADER_SIZE, fault};
 use crate::header::Header;
 use crate::text::Text;
-use std::alloc::Global;
+use psx_base::Memory;
+use std::alloc::{AllocError, Global};
 
 /// A program: the numbers of its header, and its text.
 ///
@@ -30,6 +31,7 @@ pub struct Exe {
 
 impl Exe {
     ghost use Rattle.psx_exe.specs.Reading.{read_of};
+    ghost use Rattle.psx_exe.specs.Writing.{header_for, written};
     ghost use Rattle.psx_exe.specs.declared.fault.ExeError.{ExeError};
 
     /// The program that a file is, or the file's first fault. `Memory` comes only for a file without a fault.
@@ -57,5 +59,43 @@ impl Exe {
             }),
             Err(_) => Err(ExeError::Memory),
         }
+    }
+    /// The file of the program, with 0 in each byte of the header that has no name.
+    pub fn write(&self, alloc: Global) -> Result<Vec<u8>, Memory>
+        requires { length self.now.text < 2 ^ 31 }
+        ensures bytes { IfOk result (λ file. file.items ≡ written self.now) }
+        ensures reads_back { IfOk result (λ file. (bytes : List ℕ) → read_of bytes ≡ Ok self.now → read_of file.items ≡ Ok self.now) }
+    {
+        match self.bytes(alloc) {
+            Ok(bytes) => Ok(bytes),
+            Err(_) => Err(Memory),
+        }
+    }
+
+    // The header of its file.
+    fn header(&self) -> Header
+        requires { length self.now.text < 2 ^ 31 }
+        ensures { result ≡ header_for self.now }
+    {
+        Header {
+            pc: self.pc,
+            gp: self.gp,
+            dest: self.dest,
+            size: self.text.len() as u32,
+            fill_start: self.fill_start,
+            fill_size: self.fill_size,
+            sp_base: self.sp_base,
+            sp_offset: self.sp_offset,
+        }
+    }
+
+    fn bytes(&self, alloc: Global) -> Result<Vec<u8>, AllocError>
+        requires { length self.now.text < 2 ^ 31 }
+        ensures bytes { IfOk result (λ file. file.items ≡ written self.now) }
+        ensures reads_back { IfOk result (λ file. (bytes : List ℕ) → read_of bytes ≡ Ok self.now → read_of file.items ≡ Ok self.now) }
+    {
+        let mut out = self.header().bytes(alloc)?;
+        out.extend_from_slice(self.text.as_slice())?;
+        Ok(out)
     }
 }

@@ -21,7 +21,7 @@ pub struct Header {
 
 impl Header {
     ghost use Rattle.psx_exe.specs.Header.{header_of};
-    ghost use Rattle.psx_exe.specs.Writing.{named_bytes, padding};
+    ghost use Rattle.psx_exe.specs.Writing.{named_bytes, padding, IsSmall};
 
     /// The numbers that stand in a file's first bytes.
     #[tactic(auto, unfolding(crate::specs::Header::header_of))]
@@ -42,7 +42,8 @@ impl Header {
     }
     // The header's bytes: mark and numbers at their places, and 0 elsewhere.
     pub fn bytes(self, alloc: Global) -> Result<Vec<u8>, AllocError>
-        ensures { IfOk result (λ v. v.items ≡ named_bytes self ++ padding) }
+        ensures bytes { IfOk result (λ v. v.items ≡ named_bytes self ++ padding) }
+        ensures small { IsSmall self }
     {
         let mut out = self.named_bytes(alloc)?;
         out.resize(HEADER_SIZE, 0)?;
