@@ -2,3 +2,4 @@ pub mod Header
 pub mod Faults
 pub mod Reading
 pub mod Writing
+pub mod Placed

@@ -1,5 +1,5 @@
 -- The program that a file is, or its first fault.
-use Rattle.std.specs.Prelude.{ℕ, List, take, drop, Some, None, Result, Ok, Err}
+use Rattle.std.specs.Prelude.{◌≡◌, ℕ, List, take, drop, Some, None, Result, Ok, Err}
 use Rattle.psx_exe.specs.Header.{header_of}
 use Rattle.psx_exe.specs.Faults.{first_fault, header_size}
 use Rattle.psx_exe.specs.declared.exe.Exe.{Exe}
@@ -26,3 +26,8 @@ text_of bytes = take (header_of bytes).size (drop header_size bytes)
 -- the first fault, or the program
 unfoldable pub read_of : List ℕ → Result Exe ExeError
 read_of bytes = elim (first_fault bytes) [ Some fault ↦ Err fault | None ↦ Ok (program_of (header_of bytes) (text_of bytes)) ]
+
+-- a program that some file is read as
+pub record IsReadable (e : Exe) : Type 0 where
+  pub bytes : List ℕ
+  pub read : read_of bytes ≡ Ok e

@@ -1,5 +1,5 @@
 //! A program, as a file holds it.
-ghost use Rattle.std.specs.Prelude.{◌≡◌, ◌⊎◌, ◌<◌, ◌^◌, ℕ, List, Ok, Err, IfOk, IfErr, length};
+ghost use Rattle.std.specs.Prelude.{◌≡◌, ◌⊎◌, ◌<◌, ◌^◌, Ok, Err, IfOk, IfErr, length};
 
 use crate::fault::{ExeError, HEADER_SIZE, fault};
 use crate::header::Header;
@@ -30,7 +30,7 @@ pub struct Exe {
 }
 
 impl Exe {
-    ghost use Rattle.psx_exe.specs.Reading.{read_of};
+    ghost use Rattle.psx_exe.specs.Reading.{read_of, IsReadable};
     ghost use Rattle.psx_exe.specs.Writing.{header_for, written};
     ghost use Rattle.psx_exe.specs.declared.fault.ExeError.{ExeError};
 
@@ -39,6 +39,7 @@ impl Exe {
     pub fn read(alloc: Global, bytes: &[u8]) -> Result<Exe, ExeError>
         ensures program { IfOk result (λ exe. read_of bytes.now ≡ Ok exe) }
         ensures fault { IfErr (read_of bytes.now) (λ fault. result ≡ Err fault) }
+        ensures readable { IfOk result IsReadable }
         ensures first { IfErr result (λ e. (e ≡ ExeError.Memory) ⊎ (read_of bytes.now ≡ Err e)) }
     {
         if let Some(fault) = fault(bytes) {
@@ -64,7 +65,7 @@ impl Exe {
     pub fn write(&self, alloc: Global) -> Result<Vec<u8>, Memory>
         requires { length self.now.text < 2 ^ 31 }
         ensures bytes { IfOk result (λ file. file.items ≡ written self.now) }
-        ensures reads_back { IfOk result (λ file. (bytes : List ℕ) → read_of bytes ≡ Ok self.now → read_of file.items ≡ Ok self.now) }
+        ensures reads_back { IfOk result (λ file. IsReadable self.now → read_of file.items ≡ Ok self.now) }
     {
         match self.bytes(alloc) {
             Ok(bytes) => Ok(bytes),
@@ -92,7 +93,7 @@ impl Exe {
     fn bytes(&self, alloc: Global) -> Result<Vec<u8>, AllocError>
         requires { length self.now.text < 2 ^ 31 }
         ensures bytes { IfOk result (λ file. file.items ≡ written self.now) }
-        ensures reads_back { IfOk result (λ file. (bytes : List ℕ) → read_of bytes ≡ Ok self.now → read_of file.items ≡ Ok self.now) }
+        ensures reads_back { IfOk result (λ file. IsReadable self.now → read_of file.items ≡ Ok self.now) }
     {
         let mut out = self.header().bytes(alloc)?;
         out.extend_from_slice(self.text.as_slice())?;

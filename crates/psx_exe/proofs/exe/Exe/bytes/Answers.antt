@@ -14,6 +14,6 @@ returns-clause-bytes c =
     ∙ ap (λ (x : List ℕ). named_bytes (header_for c.args.self.now) ++ padding ++ x) c.as_slice.ensures
 
 pub returns-clause-reads_back : goal.returns-clause-reads_back
-returns-clause-reads_back c bytes h =
+returns-clause-reads_back c h =
     subst (λ (x : List ℕ). read_of x ≡ Ok c.args.self.now) (sym (returns-clause-bytes c))
-    (read_of-written bytes c.args.self.now (subst (λ (k : Header). IsSmall k) c.header.ensures c.bytes.ensures.small) h)
+    (read_of-written h.bytes c.args.self.now (subst (λ (k : Header). IsSmall k) c.header.ensures c.bytes.ensures.small) h.read)

@@ -1,6 +1,6 @@
 use Rattle.std.proofs.Common.{arith, ◌≡◌, ◌≤◌, ◌+◌, length, None, sym, ap, ◌∙◌, rules}
 use Rattle.psx_exe.specs.declared.header.Header.{Header}
-use Rattle.psx_exe.specs.Faults.{first_fault}
+use Rattle.psx_exe.specs.Reading.{read_of, IsReadable}
 use Rattle.psx_exe.proofs.Accepted.{accepted}
 use Rattle.psx_exe.proofs.exe.Exe.read.Goals as goal
 
@@ -15,3 +15,7 @@ slice_bounds-from_slice-end c =
     let same = ap (λ (h : Header). h.size) c.of-header.ensures in
     let whole : 0x800 + c.of-header.result.size ≤ length c.args.bytes.now = omega (arith, h.sound.whole, same) in
     search rules
+
+pub returns-in-Ok-clause-readable : goal.returns-in-Ok-clause-readable
+unfolding read_of
+returns-in-Ok-clause-readable c = record { bytes = c.args.bytes.now; read = search rules }
