@@ -101,11 +101,11 @@ safe e r =
     let limit = a.limit in
     let whole = a.sound.whole in
     subst (λ (e : Exe). IsSafe e) (read_of-program r.bytes e r.read) (record {
-  text = rw len a.sound.text;
-  fits = omega arith;
-  fill = a.sound.fill;
-  start = a.sound.start;
-})
+      text = rw len a.sound.text;
+      fits = omega arith;
+      fill = a.sound.fill;
+      start = a.sound.start;
+    })
 
 -- so it is placed by two copies
 pub placed-safe : (m : Memory) (e : Exe) → IsSafe e → e.dest < 2 ^ 32 → e.fill_start < 2 ^ 32

@@ -6,6 +6,8 @@
 mod exe;
 mod fault;
 mod header;
+#[cfg(test)]
+mod tests;
 mod text;
 
 pub use exe::Exe;
