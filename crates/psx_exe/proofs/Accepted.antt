@@ -1,14 +1,13 @@
 -- What is known of a file without a fault, and that nothing else is needed.
-use Rattle.std.proofs.Common.{◌≡◌, ℕ, ◌+◌, ◌%◌, ◌≤◌, ◌<◌, List, [], ◌∷◌, length, true, false, Bool, Option, Some, None, refl, sym, ap, ◌∙◌, arith, nat_eq, nat_lt}
+use Rattle.std.proofs.Common.{◌≡◌, ℕ, ◌+◌, ◌%◌, ◌≤◌, List, [], ◌∷◌, length, true, false, Bool, Option, Some, None, refl, arith, nat_eq, nat_lt}
 use Rattle.std.specs.Prelude.{◌&&◌, if◌then◌else◌}
 use Rattle.std.specs.List.{starts_with}
-use Rattle.std.proofs.lemmas.Grind.{common_steps}
 use Rattle.psx_base.specs.Addresses.{user}
 use Rattle.psx_base.specs.FirstBad.{first_bad_of}
 use Rattle.psx_exe.specs.Header.{header_of}
 use Rattle.psx_exe.specs.declared.header.Header.{Header}
 use Rattle.psx_exe.specs.declared.fault.ExeError.{ExeError}
-use Rattle.psx_exe.specs.declared.fault.ExeError.TheVariants.{TooLong, Short, NoMark, TextRange, Truncated, FillRange, BadPc}
+use Rattle.psx_exe.specs.declared.fault.ExeError.TheVariants.{TooLong, Short, NoMark, TextRange, Truncated, FillRange, BadPc, Memory}
 use Rattle.psx_exe.specs.Faults.{mark, too_long, short, no_mark, text_range, truncated, fill_range, bad_pc, first_of, header_fault, first_fault}
 
 -- a header without a fault in a file of so many bytes
@@ -95,3 +94,34 @@ accepted-none bytes a =
     let header : short len ≡ None = let l = a.header in grind arith in
     let marked : no_mark bytes ≡ None = rw a.marked refl in
     first_of-none (too_long len) (short len ∷ no_mark bytes ∷ inner ∷ []) limit (first_of-none (short len) (no_mark bytes ∷ inner ∷ []) header (first_of-none (no_mark bytes) (inner ∷ []) marked (first_of-none inner [] (sound-none (header_of bytes) len a.sound) refl)))
+
+-- want of memory is no fault of a file: a list without it has it not as the first
+not_first : (x : Option ExeError) (xs : List (Option ExeError)) → (x ≡ Some Memory → ⊥) → (first_of xs ≡ Some Memory → ⊥) → first_of (x ∷ xs) ≡ Some Memory → ⊥
+not_first None xs h k = k
+not_first (Some e) xs h k = h
+
+not_if : (b : Bool) (e : ExeError) → (e ≡ Memory → ⊥) → (if b then Some e else None) ≡ Some Memory → ⊥
+not_if true e h k = h (let k' : Some e ≡ Some Memory = k in cc)
+not_if false e h k = cc
+
+not_unless : (b : Bool) (e : ExeError) → (e ≡ Memory → ⊥) → (if b then None else Some e) ≡ Some Memory → ⊥
+not_unless true e h k = cc
+not_unless false e h k = h (let k' : Some e ≡ Some Memory = k in cc)
+
+not_at : (o : Option ℕ) (f : ℕ → ExeError) → ((at : ℕ) → f at ≡ Memory → ⊥) → (let r : Option ExeError = elim o [ Some at ↦ Some (f at) | None ↦ None ] in r) ≡ Some Memory → ⊥
+not_at None f h k = cc
+not_at (Some at) f h k = h at (let k' : Some (f at) ≡ Some Memory = k in cc)
+
+pub not_memory : (bytes : List ℕ) → first_fault bytes ≡ Some Memory → ⊥
+unfolding first_fault
+not_memory bytes =
+    let len : ℕ = length bytes in
+    let h : Header = header_of bytes in
+    let start : first_of (bad_pc h ∷ []) ≡ Some Memory → ⊥ = not_first (bad_pc h) [] (not_unless (nat_eq (h.pc % 4) 0 && user h.pc) (BadPc h.pc) (λ e. cc)) (λ e. cc) in
+    let fill : first_of (fill_range h ∷ bad_pc h ∷ []) ≡ Some Memory → ⊥ = not_first (fill_range h) (bad_pc h ∷ []) (not_at (first_bad_of h.fill_start h.fill_size) FillRange (λ at e. cc)) start in
+    let whole : first_of (truncated h len ∷ fill_range h ∷ bad_pc h ∷ []) ≡ Some Memory → ⊥ = not_first (truncated h len) (fill_range h ∷ bad_pc h ∷ []) (not_if (nat_lt len (0x800 + h.size)) (Truncated (0x800 + h.size)) (λ e. cc)) fill in
+    let text : header_fault h len ≡ Some Memory → ⊥ = not_first (text_range h) (truncated h len ∷ fill_range h ∷ bad_pc h ∷ []) (not_at (first_bad_of h.dest h.size) TextRange (λ at e. cc)) whole in
+    let inner : first_of (header_fault h len ∷ []) ≡ Some Memory → ⊥ = not_first (header_fault h len) [] text (λ e. cc) in
+    let marked : first_of (no_mark bytes ∷ header_fault h len ∷ []) ≡ Some Memory → ⊥ = not_first (no_mark bytes) (header_fault h len ∷ []) (not_unless (starts_with nat_eq bytes mark) NoMark (λ e. cc)) inner in
+    let header : first_of (short len ∷ no_mark bytes ∷ header_fault h len ∷ []) ≡ Some Memory → ⊥ = not_first (short len) (no_mark bytes ∷ header_fault h len ∷ []) (not_if (nat_lt len 0x800) Short (λ e. cc)) marked in
+    not_first (too_long len) (short len ∷ no_mark bytes ∷ header_fault h len ∷ []) (not_if (nat_lt 0x800000 len) (TooLong 0x800000) (λ e. cc)) header

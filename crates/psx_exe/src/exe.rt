@@ -1,15 +1,15 @@
 //! A program, as a file holds it.
-ghost use Rattle.std.specs.Prelude.{◌≡◌, ◌⊎◌, ◌<◌, ◌^◌, Ok, Err, IfOk, IfErr, length};
+ghost use Rattle.std.specs.Prelude.{◌≡◌, ◌⊎◌, ◌<◌, ◌^◌, Ok, Err, IfOk, IfErr, IsOk, IsErrOf, length};
 
-use crate::fault::{ExeError, HEADER_SIZE, fault};
-use crate::header::Header;
+use crate::fault::{ExeError, fault};
+use crate::header::{HEADER_SIZE, Header};
 use crate::text::Text;
 use psx_base::Memory;
 use std::alloc::{AllocError, Global};
 
 /// A program: the numbers of its header, and its text.
 ///
-/// All numbers but `fill_size` are virtual addresses, or parts of one.
+/// All numbers but `fill_size` and `sp_offset` are virtual addresses.
 #[derive(Drop)]
 pub struct Exe {
     /// The address of the first instruction.
@@ -22,8 +22,9 @@ pub struct Exe {
     pub fill_start: u32,
     /// How many zeros.
     pub fill_size: u32,
-    /// The stack's top, with the offset added; 0 for the system's own.
+    /// The stack's first address, before its offset is added; 0 for the system's own stack.
     pub sp_base: u32,
+    /// What is added to the base, modulo 2^32.
     pub sp_offset: u32,
     /// The bytes that are placed.
     pub text: Text,
@@ -40,6 +41,7 @@ impl Exe {
         ensures program { IfOk result (λ exe. read_of bytes.now ≡ Ok exe) }
         ensures fault { IfErr (read_of bytes.now) (λ fault. result ≡ Err fault) }
         ensures readable { IfOk result IsReadable }
+        ensures memory { IsErrOf result ExeError.Memory → IsOk (read_of bytes.now) }
         ensures first { IfErr result (λ e. (e ≡ ExeError.Memory) ⊎ (read_of bytes.now ≡ Err e)) }
     {
         if let Some(fault) = fault(bytes) {
@@ -61,6 +63,7 @@ impl Exe {
             Err(_) => Err(ExeError::Memory),
         }
     }
+
     /// The file of the program, with 0 in each byte of the header that has no name.
     pub fn write(&self, alloc: Global) -> Result<Vec<u8>, Memory>
         requires { length self.now.text < 2 ^ 31 }
@@ -90,6 +93,7 @@ impl Exe {
         }
     }
 
+    // Its file, by the allocator's own error.
     fn bytes(&self, alloc: Global) -> Result<Vec<u8>, AllocError>
         requires { length self.now.text < 2 ^ 31 }
         ensures bytes { IfOk result (λ file. file.items ≡ written self.now) }

@@ -1,7 +1,8 @@
 //! What makes a file no program.
-ghost use Rattle.std.specs.Prelude.{◌≡◌, ◌≤◌, length};
+ghost use Rattle.std.specs.Prelude.{◌≡◌};
+ghost use Rattle.psx_exe.specs.Faults.{first_fault, header_fault};
 
-use crate::header::Header;
+use crate::header::{HEADER_SIZE, Header, MARK};
 use psx_base::{Addr, first_bad};
 
 /// Why a file gave no program. All but the last are looked for in this order.
@@ -27,14 +28,6 @@ pub enum ExeError {
 
 /// The most bytes that a file may have.
 pub const LONGEST: usize = 0x80_0000;
-
-/// The bytes of the header, behind which the text stands.
-pub const HEADER_SIZE: usize = 0x800;
-
-/// The eight bytes at a file's start.
-pub const MARK: &[u8] = b"PS-X EXE";
-
-ghost use Rattle.psx_exe.specs.Faults.{first_fault, header_fault};
 
 // The first fault of a header in a file of so many bytes.
 fn fault_of_header(header: Header, len: u64) -> Option<ExeError>

@@ -1,10 +1,15 @@
-//! The numbers of a program's header.
+//! The header of a program's file: its mark and its numbers, little-endian (PSX-SPX, EXE header).
 ghost use Rattle.std.specs.Prelude.{◌≡◌, ◌≤◌, ◌++◌, ◌+◌, IfOk, OnOk, length, vec_len};
 ghost use Rattle.byteorder.specs.Endian.{little_bytes};
 
-use crate::fault::{HEADER_SIZE, MARK};
 use byteorder::{ByteOrder, LittleEndian};
 use std::alloc::{AllocError, Global};
+
+/// The bytes of the header, behind which the text stands.
+pub const HEADER_SIZE: usize = 0x800;
+
+/// The eight bytes at a file's start.
+pub const MARK: &[u8] = b"PS-X EXE";
 
 /// The numbers of a header, in the order in which they stand in the file.
 #[derive(Clone, Copy, PartialEq, Eq, Debug)]
@@ -40,7 +45,8 @@ impl Header {
             sp_offset: LittleEndian::read_u32(&bytes[0x34..]),
         }
     }
-    // The header's bytes: mark and numbers at their places, and 0 elsewhere.
+
+    /// The header's bytes: mark and numbers at their places, and 0 elsewhere.
     pub fn bytes(self, alloc: Global) -> Result<Vec<u8>, AllocError>
         ensures bytes { IfOk result (λ v. v.items ≡ named_bytes self ++ padding) }
         ensures small { IsSmall self }

@@ -1,4 +1,4 @@
-use Rattle.std.proofs.Common.{◌≡◌, ◌∙◌, ap, ◌++◌, List, ℕ, refl, Ok, subst, sym}
+use Rattle.std.proofs.Common.{◌≡◌, ◌∙◌, ap, ◌++◌, List, ℕ, Ok, subst, sym}
 use Rattle.psx_exe.specs.declared.header.Header.{Header}
 use Rattle.psx_exe.specs.Writing.{IsSmall, header_for, named_bytes, padding, written}
 use Rattle.psx_exe.specs.Reading.{read_of}

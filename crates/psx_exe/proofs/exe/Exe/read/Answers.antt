@@ -1,7 +1,9 @@
-use Rattle.std.proofs.Common.{arith, ◌≡◌, ◌≤◌, ◌+◌, length, None, sym, ap, ◌∙◌, rules}
+use Rattle.std.proofs.Common.{arith, ◌≡◌, ◌≤◌, ◌+◌, length, Some, sym, ap, ◌∙◌, rules}
 use Rattle.psx_exe.specs.declared.header.Header.{Header}
-use Rattle.psx_exe.specs.Reading.{read_of, IsReadable}
-use Rattle.psx_exe.proofs.Accepted.{accepted}
+use Rattle.psx_exe.specs.declared.fault.ExeError.{ExeError}
+use Rattle.psx_exe.specs.declared.fault.ExeError.TheVariants.{Memory}
+use Rattle.psx_exe.specs.Reading.{read_of}
+use Rattle.psx_exe.proofs.Accepted.{accepted, not_memory}
 use Rattle.psx_exe.proofs.exe.Exe.read.Goals as goal
 
 pub of-header-requires : goal.of-header-requires
@@ -19,3 +21,8 @@ slice_bounds-from_slice-end c =
 pub returns-in-Ok-clause-readable : goal.returns-in-Ok-clause-readable
 unfolding read_of
 returns-in-Ok-clause-readable c = record { bytes = c.args.bytes.now; read = search rules }
+
+pub returns-in-Some-clause-memory : goal.returns-in-Some-clause-memory
+returns-in-Some-clause-memory c h =
+    let is : c.in-Some.fault ≡ Memory = search rules in
+    absurd (not_memory c.args.bytes.now (sym c.fault.ensures ∙ c.in-Some.is ∙ ap (λ (e : ExeError). Some e) is))

@@ -1,5 +1,5 @@
-use Rattle.std.proofs.Common.{◌∙◌, ap, ◌-◌, ◌++◌, List, ℕ, take, replicate, length, refl}
-use Rattle.psx_exe.specs.Writing.{named_bytes, padding}
+use Rattle.std.proofs.Common.{◌∙◌, ap, ◌++◌, List, ℕ, length}
+use Rattle.psx_exe.specs.Writing.{padding}
 use Rattle.psx_exe.proofs.Written.{padded}
 use Rattle.psx_exe.proofs.header.Header.bytes.Goals as goal
 
