@@ -36,7 +36,7 @@ fn fault_of_header(header: Header, len: u64) -> Option<ExeError>
     if let Some(at) = first_bad(header.dest, header.size) {
         return Some(ExeError::TextRange { at });
     }
-    let need = 0x800 + u64::from(header.size);
+    let need = HEADER_SIZE as u64 + u64::from(header.size);
     if len < need {
         return Some(ExeError::Truncated { need });
     }

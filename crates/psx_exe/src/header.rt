@@ -12,7 +12,7 @@ pub const HEADER_SIZE: usize = 0x800;
 pub const MARK: &[u8] = b"PS-X EXE";
 
 /// The numbers of a header, in the order in which they stand in the file.
-#[derive(Clone, Copy, PartialEq, Eq, Debug)]
+#[derive(Clone, Copy)]
 pub struct Header {
     pub pc: u32,
     pub gp: u32,
