@@ -1,0 +1,11 @@
+pub mod Words
+pub mod Processor
+pub mod Views
+pub mod DataAccess
+pub mod Changes
+pub mod Effect
+pub mod Traps
+pub mod Exceptions
+pub mod Guard
+pub mod Step
+pub mod UserStep

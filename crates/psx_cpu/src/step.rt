@@ -1,0 +1,92 @@
+//! One step of the processor.
+ghost use Rattle.std.specs.Prelude.{◌≡◌, ℕ, ◌+◌, ◌*◌, ◌/◌, ◌%◌, ◌^◌, ◌||◌, is_some};
+ghost use Rattle.psx_base.specs.Addresses.{user, gate_of};
+ghost use Rattle.psx_cpu.specs.Traps;
+ghost use Rattle.psx_cpu.specs.Views.{core_of};
+ghost use Rattle.psx_cpu.specs.Step;
+ghost use Rattle.psx_cpu.specs.Step.{Does};
+
+use crate::access::{place, read_word};
+use crate::arithmetic::sign_extended;
+use crate::cpu::Cpu;
+use psx_base::{Addr, Stop, is_port};
+use psx_ins::decode;
+use psx_ins::ins::Ins;
+use psx_ram::Ram;
+
+/// What a step gets from outside.
+#[derive(Clone, Copy, PartialEq, Eq, Debug)]
+pub struct BusAnswer {
+    /// Whether a pending line isn't masked.
+    pub line: bool,
+    /// What the port that the step reads answers.
+    pub value: u32,
+}
+
+/// The port that a step reads.
+#[derive(Clone, Copy, PartialEq, Eq, Debug)]
+pub struct PortRead {
+    /// Its physical address.
+    pub at: u32,
+}
+
+/// What a step did. Addresses are physical.
+#[derive(Clone, Copy, PartialEq, Eq, Debug)]
+pub enum Did {
+    /// No port was reached, and the side stayed.
+    Plain,
+    PortRead { at: u32, value: u32 },
+    PortWrite { at: u32, value: u32 },
+    /// An exception or interrupt was taken.
+    Entered { code: u32 },
+    /// RFE was executed.
+    Left,
+    /// The guard stopped it. Nothing has changed.
+    Stopped(Stop),
+}
+
+// The exception of a word that is no instruction.
+fn reserved_code(word: u32) -> u32
+    ensures { result ≡ Traps.reserved_code word }
+{
+    let op = word / 0x400_0000;
+    if op % 4 == 0 {
+        return 10;
+    }
+    if op / 4 == 4 || op / 4 == 12 || op / 4 == 14 {
+        11
+    } else {
+        10
+    }
+}
+
+impl Cpu {
+    // Whether the coming instruction may be fetched.
+    fn may_fetch(&self) -> bool
+        ensures { result ≡ (self.now.latch || (user self.now.context.pc || is_some (gate_of self.now.context.pc))) }
+    {
+        let pc = Addr(self.pc());
+        self.latch() || pc.is_user() || pc.gate().is_some()
+    }
+
+    /// One step: an interrupt is taken, or the instruction at pc has its effect, raises an exception or is stopped by the guard.
+    #[tactic(auto, unfolding(crate::specs::Step::step))]
+    pub fn step(&mut self, ram: &mut Ram, bus: BusAnswer) -> Did
+        ensures { Does (core_of self.old ram.old) (Step.step (core_of self.old ram.old) bus) result (core_of self.new ram.new) }
+    {
+        if self.takes_interrupt(bus.line) {
+            return self.raise(0, None);
+        }
+        if self.pc() % 4 != 0 {
+            return self.raise(4, Some(self.pc()));
+        }
+        if !self.may_fetch() {
+            return Did::Stopped(Stop::UserFetch { at: self.pc() });
+        }
+        let word = read_word(ram, self.pc());
+        match decode(word) {
+            Some(ins) => self.perform(ram, bus, ins),
+            None => self.raise(reserved_code(word), None),
+        }
+    }
+}

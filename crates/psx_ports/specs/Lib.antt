@@ -1,0 +1,3 @@
+pub mod HaltCodes
+pub mod History
+pub mod Stands
