@@ -1,5 +1,5 @@
 -- One step of the processor.
-use Rattle.std.specs.Prelude.{◌≡◌, ℕ, Option, Some, None, if◌then◌else◌}
+use Rattle.std.specs.Prelude.{◌≡◌, ℕ, IsTrue, Option, Some, None, if◌then◌else◌}
 use Rattle.psx_ins.specs.declared.ins.Ins.{Ins}
 use Rattle.psx_ins.specs.declared.ins.Ins.TheVariants.{LW, SW, RFE}
 use Rattle.psx_cpu.specs.declared.step.Did.{Did}
@@ -72,3 +72,9 @@ Does old _ _ new = ⊥
 abbrev pub port_read : Move → Option ℕ
 port_read (Reads next at value) = Some at
 port_read _ = None
+
+-- a port that a step tells is one
+abbrev pub IsPortDid : Did → Type 0
+IsPortDid (PortRead at value) = IsTrue (port at)
+IsPortDid (PortWrite at value) = IsTrue (port at)
+IsPortDid _ = Unit {0}

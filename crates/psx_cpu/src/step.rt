@@ -4,7 +4,7 @@ ghost use Rattle.psx_base.specs.Addresses.{user, gate_of};
 ghost use Rattle.psx_cpu.specs.Traps;
 ghost use Rattle.psx_cpu.specs.Views.{core_of};
 ghost use Rattle.psx_cpu.specs.Step;
-ghost use Rattle.psx_cpu.specs.Step.{Does};
+ghost use Rattle.psx_cpu.specs.Step.{Does, IsPortDid};
 
 use crate::access::{place, read_word};
 use crate::arithmetic::sign_extended;
@@ -70,8 +70,15 @@ impl Cpu {
     }
 
     /// One step: an interrupt is taken, or the instruction at pc has its effect, raises an exception or is stopped by the guard.
-    #[tactic(auto, unfolding(crate::specs::Step::step))]
     pub fn step(&mut self, ram: &mut Ram, bus: BusAnswer) -> Did
+        ensures does { Does (core_of self.old ram.old) (Step.step (core_of self.old ram.old) bus) result (core_of self.new ram.new) }
+        ensures port { IsPortDid result }
+    {
+        self.step_once(ram, bus)
+    }
+
+    #[tactic(auto, unfolding(crate::specs::Step::step))]
+    fn step_once(&mut self, ram: &mut Ram, bus: BusAnswer) -> Did
         ensures { Does (core_of self.old ram.old) (Step.step (core_of self.old ram.old) bus) result (core_of self.new ram.new) }
     {
         if self.takes_interrupt(bus.line) {
