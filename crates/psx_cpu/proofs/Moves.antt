@@ -15,7 +15,7 @@ use Rattle.psx_cpu.specs.Exceptions.{takes_interrupt}
 use Rattle.psx_cpu.specs.Guard.{guard_data, guard_instruction, guard_word, guard, is_branch, is_protected}
 use Rattle.psx_cpu.specs.declared.step.Did.{Did}
 use Rattle.psx_cpu.specs.declared.step.Did.TheVariants.{Plain, PortRead, PortWrite, Entered, Left, Stopped}
-use Rattle.psx_cpu.specs.Step.{Move, Goes, Reads, Writes, Enters, Leaves, Stops, entered, executed, performed, passed, step, Does, IsPortDid}
+use Rattle.psx_cpu.specs.Step.{Move, Goes, Reads, Writes, Enters, Leaves, Stops, entered, executed, performed, passed, step, port_read, Does, IsPortDid}
 
 pub if_all : (P : Move → Type 0) (b : Bool) (x y : Move) → P x → P y → P (if b then x else y)
 if_all P true x y p q = p
@@ -90,3 +90,15 @@ told-port old _ (PortWrite at' value') new h p = absurd h
 -- a step tells no port that isn't one
 pub step-told_port : (k : Core) (bus : Bus) (did : Did) (new : Core) → Does k (step k bus) did new → IsPortDid did
 step-told_port k bus did new h = told-port k (step k bus) did new h (step-port k bus)
+
+read-port : (move : Move) (at : ℕ) → IsPortMove move → port_read move ≡ Some at → port at ≡ true
+read-port (Reads next place value) at p e = let same : place ≡ at = cc in subst (λ x. port x ≡ true) same p
+read-port (Goes next) at p e = absurd cc
+read-port (Writes next place value) at p e = absurd cc
+read-port (Enters next code) at p e = absurd cc
+read-port (Leaves next) at p e = absurd cc
+read-port (Stops stop) at p e = absurd cc
+
+-- the port that a step reads is one
+pub step-read_port : (k : Core) (bus : Bus) (at : ℕ) → port_read (step k bus) ≡ Some at → port at ≡ true
+step-read_port k bus at e = read-port (step k bus) at (step-port k bus) e

@@ -1,0 +1,5 @@
+pub mod Machine
+pub mod Entries
+pub mod Turn
+pub mod Run
+pub mod Stands
