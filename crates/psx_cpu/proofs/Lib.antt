@@ -1,2 +1,3 @@
 pub mod Pending
 pub mod Views
+pub mod PortReads
