@@ -1,3 +1,4 @@
 pub mod Moves
 pub mod Pending
 pub mod Views
+pub mod PortReads

@@ -19,7 +19,7 @@ use psx_ins::reg::Reg;
 use psx_ram::Ram;
 
 impl Cpu {
-    fn data_address(&self, s: Reg, imm: u16) -> u32
+    pub(crate) fn data_address(&self, s: Reg, imm: u16) -> u32
         requires { s.0 < 32 }
         ensures { result ≡ DataAccess.data_address self.now.context s imm }
     {

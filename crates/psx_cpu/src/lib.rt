@@ -7,6 +7,7 @@ mod arithmetic;
 pub mod cpu;
 mod data;
 mod flow;
+mod peek;
 mod perform;
 pub mod step;
 
