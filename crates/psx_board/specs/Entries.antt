@@ -1,5 +1,5 @@
 -- What the trace shows of an entry into the kernel.
-use Rattle.std.specs.Prelude.{ℕ, zero, suc, ◌+◌, ◌^◌, Bool, Option, Some, None, nat_eq, if◌then◌else◌}
+use Rattle.std.specs.Prelude.{ℕ, ◌+◌, ◌^◌, Bool, Option, Some, None, nat_eq, if◌then◌else◌}
 use Rattle.psx_base.specs.declared.address.Gate.{Gate}
 use Rattle.psx_base.specs.declared.address.Gate.TheVariants.{A, B, C, Done, Back}
 use Rattle.psx_base.specs.Addresses.{gate_of}

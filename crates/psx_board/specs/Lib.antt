@@ -3,3 +3,4 @@ pub mod Entries
 pub mod Turn
 pub mod Run
 pub mod Stands
+pub mod View

@@ -3,7 +3,7 @@ use Rattle.std.specs.Prelude.{◌≡◌, ℕ, ◌%◌, ◌^◌, List, [], ◌∷
 use Rattle.psx_base.specs.declared.ports.TheConstants.{CONSOLE_DATA}
 use Rattle.psx_base.specs.declared.stop.Stop.{Stop}
 use Rattle.psx_cpu.specs.declared.step.Did.{Did}
-use Rattle.psx_cpu.specs.declared.step.Did.TheVariants.{Plain, PortRead, PortWrite, Entered, Left, Stopped}
+use Rattle.psx_cpu.specs.declared.step.Did.TheVariants.{PortWrite, Stopped}
 use Rattle.psx_cpu.specs.Processor.{Core}
 use Rattle.psx_ports.specs.Stands.{Kept, StandsFor}
 use Rattle.psx_board.specs.Machine.{Machine}

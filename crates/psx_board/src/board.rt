@@ -1,26 +1,28 @@
 //! The board and its steps.
-ghost use Rattle.std.specs.Prelude.{◌≡◌, ℕ, ◌+◌, ◌-◌, ◌^◌, ◌<◌, ◌≤◌, [], length, None, IfOk, IfSome, IsTrue, IsSome, is_some};
+ghost use Rattle.std.specs.Prelude.{◌≡◌, ℕ, ◌+◌, ◌-◌, ◌^◌, ◌<◌, ◌≤◌, [], length, replicate, Some, None, IfOk, IsTrue};
 ghost use Rattle.psx_base.specs.Addresses;
+ghost use Rattle.psx_base.specs.FirstBad.{first_bad_of};
+ghost use Rattle.psx_base.specs.Memory.{put_bytes};
+ghost use Rattle.psx_base.specs.PortAddresses.{port};
 ghost use Rattle.psx_exe.specs.Placed;
 ghost use Rattle.psx_exe.specs.Placed.{placed};
 ghost use Rattle.psx_exe.specs.Reading.{IsReadable};
 ghost use Rattle.psx_board.specs.Machine.{Machine, start};
-ghost use Rattle.psx_board.specs.Turn.{turn, asked, answered, after_read, by_move};
-ghost use Rattle.psx_board.specs.Stands.{Stands, Turned, View};
+ghost use Rattle.psx_board.specs.View.{view_of};
+ghost use Rattle.psx_board.specs.Turn.{turn, asked, answered, after_read, after_write, by_move};
+ghost use Rattle.psx_board.specs.Stands.{Stands, Turned};
 ghost use Rattle.psx_ports.specs.History;
+ghost use Rattle.psx_ports.specs.History.{written};
 ghost use Rattle.psx_ports.specs.Stands.{StandsFor};
-ghost use Rattle.psx_cpu.specs.Step.{Move, Does, IsPortDid, step, port_read};
-ghost use Rattle.std.specs.Option.{option_map};
-ghost use Rattle.psx_cpu.specs.Views.{core_of};
+ghost use Rattle.psx_cpu.specs.Step.{Move, Does, IsPortDid};
 
 use psx_base::{Addr, Memory, Sizes, Stop};
-use psx_cpu::{BusAnswer, Cpu, Did, PortRead};
+use psx_cpu::{BusAnswer, Cpu, Did};
 use psx_exe::Exe;
 use psx_ports::{PortDid, Ports};
 use psx_ram::Ram;
 use psx_sched::Schedule;
 use std::alloc::Global;
-use std::marker::Model;
 
 /// A board. It keeps no history; contracts say for which machine it stands.
 #[derive(Drop)]
@@ -33,15 +35,6 @@ pub struct Board {
     stopped: Option<Stop>,
 }
 
-impl Model for Board {
-    ghost use Rattle.psx_cpu.specs.Views.{core_of};
-    ghost use Rattle.psx_board.specs.Stands.{View};
-
-    ghost Value = { View };
-
-    ghost view = { λ b. record { core = core_of b.cpu b.ram; ports = b.ports; taken = b.taken; stopped = b.stopped } };
-}
-
 // The physical address, or 2^29 where there is none.
 fn place(at: u32) -> u32
     ensures { result ≡ Addresses.place at }
@@ -52,17 +45,35 @@ fn place(at: u32) -> u32
     }
 }
 
+// Copies bytes to user memory.
+#[tactic(auto, using(crate::proofs::Ranges::user_mapped, crate::proofs::Ranges::user_writable), unfolding(psx_base::specs::Memory::put_bytes))]
+fn copy(ram: &mut Ram, at: u32, bytes: &[u8])
+    requires { first_bad_of at (length bytes.now) ≡ None }
+    ensures { ram.new ≡ put_bytes ram.old (Addresses.place at) bytes.now }
+{
+    if !bytes.is_empty() {
+        ram.load(place(at), bytes);
+    }
+}
+
+// Clears user memory.
+#[tactic(auto, using(crate::proofs::Ranges::user_mapped, crate::proofs::Ranges::user_writable), unfolding(psx_base::specs::Memory::put_bytes))]
+fn clear(ram: &mut Ram, at: u32, len: u32)
+    requires { first_bad_of at len ≡ None }
+    ensures { ram.new ≡ put_bytes ram.old (Addresses.place at) (replicate len 0) }
+{
+    if len != 0 {
+        ram.fill(place(at), len);
+    }
+}
+
 // Places the text of a program, and then clears its fill.
 fn place_program(ram: &mut Ram, exe: &Exe)
     requires { IsReadable exe.now }
     ensures { ram.new ≡ placed ram.old exe.now }
 {
-    if !exe.text.is_empty() {
-        ram.load(place(exe.dest), exe.text.as_slice());
-    }
-    if exe.fill_size != 0 {
-        ram.fill(place(exe.fill_start), exe.fill_size);
-    }
+    copy(ram, exe.dest, exe.text.as_slice());
+    clear(ram, exe.fill_start, exe.fill_size);
 }
 
 // Where the stack of a program begins.
@@ -74,12 +85,6 @@ fn stack_top(exe: &Exe) -> u32
     } else {
         exe.sp_base.wrapping_add(exe.sp_offset)
     }
-}
-
-fn peek(cpu: &Cpu, ram: &Ram, line: bool) -> Option<PortRead>
-    ensures { (value : ℕ) → option_map (λ p. p.at) result ≡ port_read (step (core_of cpu.now ram.now) (record { line = line; value = value })) }
-{
-    None
 }
 
 impl Board {
@@ -97,8 +102,8 @@ impl Board {
         requires schedule { schedule ≡ [] }
         requires threads { (4 ≤ sizes.threads) × (sizes.threads ≤ 16) }
         requires events { (16 ≤ sizes.events) × (sizes.events ≤ 64) }
-        ensures stands { IfOk result (λ b. Stands b (start rom.now exe.now sizes)) }
-        ensures running { IfOk result (λ b. b.stopped ≡ None) }
+        ensures stands { IfOk result (λ b. Stands (view_of b) (start rom.now exe.now sizes)) }
+        ensures running { IfOk result (λ b. (view_of b).stopped ≡ None) }
     {
         let mut ram = Ram::new(alloc, rom)?;
         place_program(&mut ram, exe);
@@ -115,39 +120,39 @@ impl Board {
 
     /// The number of finished steps since reset.
     pub fn taken(&self) -> u64
-        ensures { result ≡ self.now.taken }
+        ensures { result ≡ (view_of self.now).taken }
     {
         self.taken
     }
 
     /// What a step stopped with, if one has.
     pub fn stopped(&self) -> Option<Stop>
-        ensures { result ≡ self.now.stopped }
+        ensures { result ≡ (view_of self.now).stopped }
     {
         self.stopped
     }
 
     /// The processor.
     pub fn cpu(&self) -> &Cpu
-        ensures { result.now ≡ self.now.core.processor }
+        ensures { result.now ≡ (view_of self.now).core.processor }
     {
         &self.cpu
     }
 
     /// The memory.
     pub fn ram(&self) -> &Ram
-        ensures { result.now ≡ self.now.core.bytes }
+        ensures { result.now ≡ (view_of self.now).core.bytes }
     {
         &self.ram
     }
 
     // What the port that the coming step reads answers.
     fn ask(&mut self, line: bool) -> u32
-        ensures value { (m : Machine) → Stands self.old m → line ≡ History.line m.history → result ≡ answered m.history (asked m) }
-        ensures stands { (m : Machine) → Stands self.old m → line ≡ History.line m.history → Stands self.new (after_read m (asked m)) }
-        ensures rest { self.new ≡ record self.old { ports = self.new.ports } }
+        ensures value { (m : Machine) → Stands (view_of self.old) m → line ≡ History.line m.history → result ≡ answered m.history (asked m) }
+        ensures stands { (m : Machine) → Stands (view_of self.old) m → line ≡ History.line m.history → Stands (view_of self.new) (after_read m (asked m)) }
+        ensures rest { view_of self.new ≡ record (view_of self.old) { ports = (view_of self.new).ports } }
     {
-        match peek(&self.cpu, &self.ram, line) {
+        match self.cpu.peek_port(&self.ram, line) {
             Some(read) => self.ports.read(read.at),
             None => 0,
         }
@@ -155,29 +160,50 @@ impl Board {
 
     // Ends a step by what the processor did.
     fn finish(&mut self, did: Did) -> Did
-        requires room { self.old.taken < 2 ^ 64 - 1 }
+        requires running { (view_of self.old).stopped ≡ None }
+        requires room { (view_of self.old).taken < 2 ^ 64 - 1 }
         requires port { IsPortDid did }
-        ensures { (m : Machine) (move : Move) → StandsFor self.old.ports m.history → self.old.taken ≡ m.taken → Does m.core move did self.old.core → Turned (by_move m move) result self.new }
+        ensures { (m : Machine) (move : Move) → StandsFor (view_of self.old).ports m.history → (view_of self.old).taken ≡ m.taken → Does m.core move did (view_of self.old).core → Turned (by_move m move) result (view_of self.new) }
     {
         match did {
-            Did::PortWrite { at, value } => {
-                self.taken += 1;
-                match self.ports.write(at, value) {
-                    PortDid::Halt(stop) => self.stop(stop),
-                    _ => did,
-                }
-            }
+            Did::PortWrite { at, value } => self.finish_write(at, value),
             Did::Stopped(stop) => self.stop(stop),
-            _ => {
-                self.taken += 1;
-                did
-            }
+            Did::Plain => self.advance(did),
+            Did::PortRead { .. } => self.advance(did),
+            Did::Entered { .. } => self.advance(did),
+            Did::Left => self.advance(did),
         }
+    }
+
+    // Ends a step that wrote to a port.
+    fn finish_write(&mut self, at: u32, value: u32) -> Did
+        requires running { (view_of self.old).stopped ≡ None }
+        requires room { (view_of self.old).taken < 2 ^ 64 - 1 }
+        requires port { IsTrue (port at) }
+        ensures { (m : Machine) → StandsFor (view_of self.old).ports m.history → (view_of self.old).taken ≡ m.taken → (view_of self.old).core ≡ m.core →
+            Turned (after_write m at value (written m.history at value)) result (view_of self.new) }
+    {
+        self.taken += 1;
+        match self.ports.write(at, value) {
+            PortDid::Halt(stop) => self.stop(stop),
+            PortDid::Quiet => Did::PortWrite { at, value },
+            PortDid::Tty(_) => Did::PortWrite { at, value },
+        }
+    }
+
+    // Counts a step.
+    fn advance(&mut self, did: Did) -> Did
+        requires { (view_of self.old).taken < 2 ^ 64 - 1 }
+        ensures told { result ≡ did }
+        ensures counted { view_of self.new ≡ record (view_of self.old) { taken = (view_of self.old).taken + 1 } }
+    {
+        self.taken += 1;
+        did
     }
 
     fn stop(&mut self, stop: Stop) -> Did
         ensures told { result ≡ Did.Stopped stop }
-        ensures stopped { self.new ≡ record self.old { stopped = Option.Some stop } }
+        ensures stopped { view_of self.new ≡ record (view_of self.old) { stopped = Some stop } }
     {
         self.stopped = Some(stop);
         Did::Stopped(stop)
@@ -186,9 +212,9 @@ impl Board {
     /// One step. A halt is Stopped, and finishes its step; a stop of the guard finishes none.
     #[tactic(auto, unfolding(crate::specs::Turn::turn))]
     pub fn step(&mut self) -> Did
-        requires running { self.old.stopped ≡ None }
-        requires room { self.old.taken < 2 ^ 64 - 1 }
-        ensures turns { (m : Machine) → Stands self.old m → Turned (turn m) result self.new }
+        requires running { (view_of self.old).stopped ≡ None }
+        requires room { (view_of self.old).taken < 2 ^ 64 - 1 }
+        ensures turns { (m : Machine) → Stands (view_of self.old) m → Turned (turn m) result (view_of self.new) }
     {
         let line = self.ports.line();
         let value = self.ask(line);
