@@ -3,6 +3,7 @@
 #![tactic(auto)]
 
 pub mod address;
+mod files;
 pub mod host;
 pub mod memory_host;
 pub mod no_fail_host;
