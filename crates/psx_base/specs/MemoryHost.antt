@@ -85,6 +85,7 @@ FailsSend h out bytes = IsSome (fails_send h (next_call h.sends)) ⊎ (left_on h
 abbrev pub send_length : MemoryHost → Out → List ℕ → ℕ
 send_length h out bytes = let fits = min (length bytes) (left_on h out) in min fits (unwrap_or (fails_send h (next_call h.sends)) fits)
 
--- one more send was made, and only its fault may have been counted and the outputs grown
-abbrev pub CountsSend : MemoryHost → MemoryHost → Type 0
-CountsSend old new = new ≡ record old { sends = next_call old.sends; send_faults = new.send_faults; outputs = new.outputs }
+-- one more send was made, only its fault may have been counted and the outputs grown, and each output keeps its room
+pub record CountsSend (old new : MemoryHost) : Type 0 where
+  pub rest : new ≡ record old { sends = next_call old.sends; send_faults = new.send_faults; outputs = new.outputs }
+  pub room : new.outputs.room ≡ old.outputs.room

@@ -9,6 +9,8 @@ pub mod memory_host;
 pub mod no_fail_host;
 pub mod ports;
 pub mod stop;
+#[cfg(test)]
+mod tests;
 
 pub use address::{Addr, Gate, Segment, first_bad};
 pub use host::{Host, LoadError, Out, SendError};

@@ -83,7 +83,8 @@ impl Outputs {
     }
 }
 
-/// A host in memory, which tells everything.
+/// A host in memory, which tells everything. Loads and sends are numbered apart, each from 1.
+/// A load fails where its number was set or its name isn't held, a send where its number was set or the room of its output is too small.
 #[derive(Drop)]
 pub struct MemoryHost {
     files: Files,
@@ -225,6 +226,7 @@ impl MemoryHost {
 
 impl Host for MemoryHost {
     ghost use Rattle.psx_base.specs.MemoryHost.{held, sent_on, load_faults_of, send_faults_of, FailsLoad, CountsLoad, FailsSend, send_length, CountsSend};
+    ghost use Rattle.psx_base.specs.Calls.{next_call};
     ghost use Rattle.psx_base.specs.Host.{Rose, IsFront, Sends};
 
     ghost holds = { held };
@@ -239,6 +241,9 @@ impl Host for MemoryHost {
         // It fails exactly where its number was set or its name isn't held.
         ensures exactly { IsErrOf result LoadError.Failed ↔ FailsLoad self.old name.now }
         ensures only_counts { CountsLoad self.old self.new }
+        ensures counted { IsErrOf result LoadError.Failed → load_faults_of self.new ≡ next_call (load_faults_of self.old) }
+        ensures uncounted { IfOk result (λ _. load_faults_of self.new ≡ load_faults_of self.old) }
+        ensures memory { IsErrOf result LoadError.Memory → load_faults_of self.new ≡ load_faults_of self.old }
 
         // What the trait says.
         ensures room { IfOk result (λ v. length v.items ≤ limit + 1) }
@@ -263,6 +268,8 @@ impl Host for MemoryHost {
         ensures exactly { IsErrOf result SendError.Failed ↔ FailsSend self.old out bytes.now }
         ensures appended { sent_on self.new out ≡ sent_on self.old out ++ take (send_length self.old out bytes.now) bytes.now }
         ensures only_counts { CountsSend self.old self.new }
+        ensures counted { IsErrOf result SendError.Failed → send_faults_of self.new ≡ next_call (send_faults_of self.old) }
+        ensures uncounted { OnOk result (send_faults_of self.new ≡ send_faults_of self.old) }
 
         // What the trait says.
         ensures sent { Sends (λ o. Some (sent_on self.old o)) (λ o. Some (sent_on self.new o)) out bytes.now result }
