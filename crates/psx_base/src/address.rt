@@ -3,7 +3,7 @@ ghost use Rattle.std.specs.Prelude.{◌≡◌, IsTrue, ◌↔◌};
 ghost use Rattle.psx_base.specs.Addresses.{segment_of, physical_of, user, gate_of};
 ghost use Rattle.psx_base.specs.FirstBad.{first_bad_of};
 
-/// A virtual address of the processor.
+/// A virtual address of the processor, of a byte.
 #[derive(Clone, Copy, PartialEq, Eq, Debug)]
 pub struct Addr(pub u32);
 
@@ -34,7 +34,7 @@ pub enum Gate {
 }
 
 impl Addr {
-    /// The segment of an address.
+    /// The segment of an address, by its top three bits: 0, 4 or 5. None elsewhere.
     pub fn segment(self) -> Option<Segment>
         ensures { result ≡ segment_of self.0 }
     {
@@ -70,7 +70,7 @@ impl Addr {
         }
     }
 
-    /// The gate at an address.
+    /// The gate at an address, the same in the three segments. None elsewhere.
     pub fn gate(self) -> Option<Gate>
         ensures { result ≡ gate_of self.0 }
     {

@@ -3,11 +3,14 @@
 #![tactic(auto)]
 
 pub mod address;
+mod files;
 pub mod host;
 pub mod memory_host;
 pub mod no_fail_host;
 pub mod ports;
 pub mod stop;
+#[cfg(test)]
+mod tests;
 
 pub use address::{Addr, Gate, Segment, first_bad};
 pub use host::{Host, LoadError, Out, SendError};

@@ -3,14 +3,14 @@ ghost use Rattle.psx_base.specs.Calls.{after_of};
 ghost use Rattle.psx_base.specs.declared.host.Out.{Out};
 ghost use Rattle.std.specs.Prelude.{◌≡◌, ◌≢◌, ◌≤◌, ◌<◌, ◌+◌, ◌-◌, ◌^◌, ℕ, List, [], ◌∷◌, ◌++◌, Option, Some, IfOk, IfErr, OnOk, OnErr, IsErrOf, length, vec_len, vec_capacity, min, option_copied, Contains, ◌↔◌, IsTrue, take};
 
+use crate::files::Files;
 use crate::host::{Host, LoadError, Out, SendError};
 use crate::stop::Memory;
 use std::alloc::{AllocError, Global};
-use std::collections::BTreeMap;
 
-/// What was sent, each output in a buffer of a room that was taken at first.
+// What was sent, each output in a buffer of a room that was taken at first.
 #[derive(Drop)]
-pub struct Outputs {
+struct Outputs {
     room: usize,
     tty: Vec<u8>,
     trace: Vec<u8>,
@@ -41,7 +41,8 @@ fn append(buffer: &mut Vec<u8>, bytes: &[u8])
 impl Outputs {
     ghost use Rattle.psx_base.specs.Outputs.{bytes_on};
 
-    pub fn new(alloc: Global, room: usize) -> Result<Outputs, AllocError>
+    // Empty outputs, each with room for so many bytes.
+    fn new(alloc: Global, room: usize) -> Result<Outputs, AllocError>
         ensures { IfOk result (λ o. (o.room ≡ room) × ((out : _) → bytes_on o out ≡ [])) }
     {
         Ok(Outputs {
@@ -53,7 +54,8 @@ impl Outputs {
         })
     }
 
-    pub fn on(&self, out: Out) -> &[u8]
+    // What was sent on an output.
+    fn on(&self, out: Out) -> &[u8]
         ensures value { result.now ≡ bytes_on self.now out }
         ensures fits { length result.now ≤ self.now.room }
     {
@@ -81,11 +83,11 @@ impl Outputs {
     }
 }
 
-/// A host in memory, which tells everything.
+/// A host in memory, which tells everything. Loads and sends are numbered apart, each from 1.
+/// A load fails where its number was set or its name isn't held, a send where its number was set or the room of its output is too small.
 #[derive(Drop)]
 pub struct MemoryHost {
-    alloc: Global,
-    files: BTreeMap<String, Vec<u8>>,
+    files: Files,
     outputs: Outputs,
     loads: u64,
     sends: u64,
@@ -134,17 +136,18 @@ fn set_after(calls: &[(u64, usize)], call: u64) -> Option<usize>
 
 impl MemoryHost {
     ghost use Rattle.psx_base.specs.Outputs.{bytes_on};
-    ghost use Rattle.psx_base.specs.MemoryHost.{held, sent_on, SetsFile, IsQuiet, fails_load, fails_send, KeepsRest, KeepsFiles, SetsLoads, SetsSends};
+    ghost use Rattle.psx_base.specs.Files.{SetsFile, KeepsFiles};
+    ghost use Rattle.psx_base.specs.MemoryHost.{held, sent_on, load_faults_of, send_faults_of, set_loads, set_sends, IsQuiet, fails_load, fails_send, KeepsRest, SetsLoads, SetsSends};
     ghost use Rattle.psx_base.specs.Calls.{next_call};
 
-    /// A host with no files and no faults, with room for so many bytes on each output.
+    /// A host with no files and no faults, with room for so many bytes on each output. It takes that room here, so that a send takes no memory,
+    /// and keeps its allocator for the files and settings.
     pub fn new(alloc: Global, room: usize) -> Result<MemoryHost, Memory>
         ensures { IfOk result (λ h. IsQuiet h room) }
     {
         let outputs = Outputs::new(alloc, room).map_err(|_| Memory)?;
         Ok(MemoryHost {
-            alloc,
-            files: BTreeMap::new(alloc),
+            files: Files::new(alloc),
             outputs,
             loads: 0,
             sends: 0,
@@ -155,36 +158,28 @@ impl MemoryHost {
         })
     }
 
-    /// Sets a file.
+    /// Sets a file, in place of what the name had. An Err leaves all files as they were.
     pub fn put(&mut self, name: &str, bytes: &[u8]) -> Result<(), Memory>
         ensures ok { OnOk result (SetsFile (held self.old) (held self.new) name.now bytes.now) }
         ensures err { OnErr result (KeepsFiles (held self.old) (held self.new)) }
         ensures rest { KeepsRest self.old self.new }
     {
-        let Ok(key) = String::from_str(self.alloc, name) else {
-            return Err(Memory);
-        };
-        let Ok(value) = Vec::from_slice(self.alloc, bytes) else {
-            return Err(Memory);
-        };
-        match self.files.insert(key, value) {
-            Ok(_) => Ok(()),
-            Err(_) => Err(Memory),
-        }
+        self.files.put(name, bytes)
     }
 
-    /// Makes the load of this number fail.
+    /// Makes the load of this number fail. Loads are numbered from 1.
     pub fn fail_load(&mut self, call: u64) -> Result<(), Memory>
-        ensures ok { OnOk result (SetsLoads self.old self.new (self.old.bad_loads.items ++ call ∷ [])) }
-        ensures err { OnErr result (SetsLoads self.old self.new self.old.bad_loads.items) }
+        ensures ok { OnOk result (SetsLoads self.old self.new (set_loads self.old ++ call ∷ [])) }
+        ensures err { OnErr result (SetsLoads self.old self.new (set_loads self.old)) }
     {
         self.bad_loads.push(call).map_err(|_| Memory)
     }
 
-    /// Makes the send of this number fail after so many bytes.
+    /// Makes the send of this number fail after so many bytes, or fewer where not so many fit. Sends are numbered from 1, apart from loads.
+    /// Of two settings of one number the first holds.
     pub fn fail_send(&mut self, call: u64, after: usize) -> Result<(), Memory>
-        ensures ok { OnOk result (SetsSends self.old self.new (self.old.bad_sends.items ++ (call, after) ∷ [])) }
-        ensures err { OnErr result (SetsSends self.old self.new self.old.bad_sends.items) }
+        ensures ok { OnOk result (SetsSends self.old self.new (set_sends self.old ++ (call, after) ∷ [])) }
+        ensures err { OnErr result (SetsSends self.old self.new (set_sends self.old)) }
     {
         self.bad_sends.push((call, after)).map_err(|_| Memory)
     }
@@ -196,26 +191,18 @@ impl MemoryHost {
         self.outputs.on(out)
     }
 
+    /// How many loads failed, 2^64 - 1 at most.
     pub fn load_faults(&self) -> u64
-        ensures { result ≡ self.now.load_faults }
+        ensures { result ≡ load_faults_of self.now }
     {
         self.load_faults
     }
 
+    /// How many sends failed, 2^64 - 1 at most.
     pub fn send_faults(&self) -> u64
-        ensures { result ≡ self.now.send_faults }
+        ensures { result ≡ send_faults_of self.now }
     {
         self.send_faults
-    }
-
-    // The bytes under a name.
-    fn find(&self, name: &str) -> Option<&[u8]>
-        ensures { option_copied result ≡ held self.now name.now }
-    {
-        match self.files.get(name) {
-            Some(bytes) => Some(bytes.as_slice()),
-            None => None,
-        }
     }
 
     // Counts a load, and tells whether it was set to fail.
@@ -238,34 +225,37 @@ impl MemoryHost {
 }
 
 impl Host for MemoryHost {
-    ghost use Rattle.psx_base.specs.MemoryHost.{held, sent_on, FailsLoad};
+    ghost use Rattle.psx_base.specs.MemoryHost.{held, sent_on, load_faults_of, send_faults_of, FailsLoad, CountsLoad, FailsSend, send_length, CountsSend};
     ghost use Rattle.psx_base.specs.Calls.{next_call};
-    ghost use Rattle.psx_base.specs.Host.{Rose, IsFront};
+    ghost use Rattle.psx_base.specs.Host.{Rose, IsFront, Sends};
 
     ghost holds = { held };
 
     ghost sent = { λ h out. Some (sent_on h out) };
 
-    ghost load_faults = { λ h _. h.load_faults };
+    ghost load_faults = { λ h _. load_faults_of h };
 
-    ghost send_faults = { λ h. h.send_faults };
+    ghost send_faults = { send_faults_of };
 
     fn load(&mut self, alloc: Global, name: &str, limit: usize) -> Result<Vec<u8>, LoadError>
         // It fails exactly where its number was set or its name isn't held.
         ensures exactly { IsErrOf result LoadError.Failed ↔ FailsLoad self.old name.now }
-        ensures only_counts { self.new ≡ record self.old { loads = next_call self.old.loads; load_faults = self.new.load_faults } }
+        ensures only_counts { CountsLoad self.old self.new }
+        ensures counted { IsErrOf result LoadError.Failed → load_faults_of self.new ≡ next_call (load_faults_of self.old) }
+        ensures uncounted { IfOk result (λ _. load_faults_of self.new ≡ load_faults_of self.old) }
+        ensures memory { IsErrOf result LoadError.Memory → load_faults_of self.new ≡ load_faults_of self.old }
 
         // What the trait says.
         ensures room { IfOk result (λ v. length v.items ≤ limit + 1) }
         ensures bytes { IfOk result (λ v. IsFront (limit + 1) (held self.old name.now) v.items) }
-        ensures failed { IsErrOf result LoadError.Failed → Rose self.old.load_faults self.new.load_faults }
-        ensures load_faults { (n : List ℕ) → self.old.load_faults ≤ self.new.load_faults }
-        ensures send_faults { self.old.send_faults ≤ self.new.send_faults }
+        ensures failed { IsErrOf result LoadError.Failed → Rose (load_faults_of self.old) (load_faults_of self.new) }
+        ensures load_faults { (n : List ℕ) → load_faults_of self.old ≤ load_faults_of self.new }
+        ensures send_faults { send_faults_of self.old ≤ send_faults_of self.new }
         ensures holds { (n : List ℕ) → held self.new n ≡ held self.old n }
         ensures sent { (o : Out) → Some (sent_on self.new o) ≡ Some (sent_on self.old o) }
     {
         if !self.next_load() {
-            if let Some(bytes) = self.find(name) {
+            if let Some(bytes) = self.files.find(name) {
                 return copied(alloc, front(bytes, limit));
             }
         }
@@ -273,7 +263,21 @@ impl Host for MemoryHost {
         Err(LoadError::Failed)
     }
 
-    fn send(&mut self, out: Out, bytes: &[u8]) -> Result<(), SendError> {
+    fn send(&mut self, out: Out, bytes: &[u8]) -> Result<(), SendError>
+        // It fails exactly where its number was set or its bytes don't fit, and appends as many as were set and as fit.
+        ensures exactly { IsErrOf result SendError.Failed ↔ FailsSend self.old out bytes.now }
+        ensures appended { sent_on self.new out ≡ sent_on self.old out ++ take (send_length self.old out bytes.now) bytes.now }
+        ensures only_counts { CountsSend self.old self.new }
+        ensures counted { IsErrOf result SendError.Failed → send_faults_of self.new ≡ next_call (send_faults_of self.old) }
+        ensures uncounted { OnOk result (send_faults_of self.new ≡ send_faults_of self.old) }
+
+        // What the trait says.
+        ensures sent { Sends (λ o. Some (sent_on self.old o)) (λ o. Some (sent_on self.new o)) out bytes.now result }
+        ensures failed { IsErrOf result SendError.Failed → Rose (send_faults_of self.old) (send_faults_of self.new) }
+        ensures load_faults { (n : List ℕ) → load_faults_of self.old ≤ load_faults_of self.new }
+        ensures send_faults { send_faults_of self.old ≤ send_faults_of self.new }
+        ensures holds { (n : List ℕ) → held self.new n ≡ held self.old n }
+    {
         let set = self.next_send();
         let left = self.outputs.room - self.outputs.on(out).len();
         let fits = bytes.len().min(left);

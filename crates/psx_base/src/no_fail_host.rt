@@ -1,57 +1,38 @@
 //! A host that never fails, for clauses that speak of one.
-ghost use Rattle.std.specs.Prelude.{◌≡◌, ◌≤◌, ◌+◌, ℕ, List, [], Option, Some, None, OnOk, OnErr, IfOk, unwrap_or, take, option_copied};
+ghost use Rattle.std.specs.Prelude.{◌≡◌, ◌≤◌, ◌+◌, ℕ, List, [], Option, Some, None, OnOk, OnErr, IfOk, unwrap_or, take};
 ghost use Rattle.psx_base.specs.declared.host.Out.{Out};
 
+use crate::files::Files;
 use crate::host::{Host, LoadError, Out, SendError};
 use crate::memory_host::{copied, front};
 use crate::stop::Memory;
 use std::alloc::Global;
-use std::collections::BTreeMap;
 
 /// A host that never fails: a name that isn't held is an empty file, and what is sent is dropped.
 #[derive(Drop)]
 pub struct NoFailHost {
-    alloc: Global,
-    files: BTreeMap<String, Vec<u8>>,
+    files: Files,
 }
 
 impl NoFailHost {
-    ghost use Rattle.psx_base.specs.MemoryHost.{SetsFile, KeepsFiles};
+    ghost use Rattle.psx_base.specs.Files.{SetsFile, KeepsFiles};
     ghost use Rattle.psx_base.specs.NoFailHost.{kept};
 
+    /// A host with no files, which keeps its allocator for those that are put. It takes no memory.
     pub fn new(alloc: Global) -> NoFailHost
         ensures { (n : List ℕ) → kept result n ≡ None }
     {
         NoFailHost {
-            alloc,
-            files: BTreeMap::new(alloc),
+            files: Files::new(alloc),
         }
     }
 
-    /// Sets a file.
+    /// Sets a file, in place of what the name had. An Err leaves all files as they were.
     pub fn put(&mut self, name: &str, bytes: &[u8]) -> Result<(), Memory>
         ensures ok { OnOk result (SetsFile (kept self.old) (kept self.new) name.now bytes.now) }
         ensures err { OnErr result (KeepsFiles (kept self.old) (kept self.new)) }
     {
-        let Ok(key) = String::from_str(self.alloc, name) else {
-            return Err(Memory);
-        };
-        let Ok(value) = Vec::from_slice(self.alloc, bytes) else {
-            return Err(Memory);
-        };
-        match self.files.insert(key, value) {
-            Ok(_) => Ok(()),
-            Err(_) => Err(Memory),
-        }
-    }
-
-    fn find(&self, name: &str) -> Option<&[u8]>
-        ensures { option_copied result ≡ kept self.now name.now }
-    {
-        match self.files.get(name) {
-            Some(bytes) => Some(bytes.as_slice()),
-            None => None,
-        }
+        self.files.put(name, bytes)
     }
 }
 
@@ -67,7 +48,7 @@ impl Host for NoFailHost {
     ghost send_faults = { λ _. 0 };
 
     fn load(&mut self, alloc: Global, name: &str, limit: usize) -> Result<Vec<u8>, LoadError> {
-        match self.find(name) {
+        match self.files.find(name) {
             Some(bytes) => copied(alloc, front(bytes, limit)),
             None => Ok(Vec::new(alloc)),
         }

@@ -45,7 +45,7 @@ pub const START_THREADS: u32 = 0x1F80_2124;
 /// Reads the number of events.
 pub const START_EVENTS: u32 = 0x1F80_2128;
 
-/// Whether a physical address is a port's.
+/// Whether a physical address is a port's: a port is one word, and the other bytes of the word are none.
 #[tactic(auto, unfolding(crate::specs::PortAddresses::port))]
 pub fn is_port(physical: u32) -> bool
     ensures { result ≡ port physical }

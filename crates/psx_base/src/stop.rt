@@ -4,19 +4,25 @@
 #[derive(Clone, Copy, PartialEq, Eq, Debug)]
 pub struct Memory;
 
-/// The sizes of the kernel's tables: threads 4 to 16, events 16 to 64.
+/// The sizes of the kernel's tables: threads 4 to 16, events 16 to 64. The type itself doesn't bound them.
 #[derive(Clone, Copy, PartialEq, Eq, Debug)]
 pub struct Sizes {
+    /// Slots for threads.
     pub threads: u32,
+    /// Event control blocks.
     pub events: u32,
 }
 
 /// The three tables of calls, by their gates, and the SYSCALLs outside the gates.
 #[derive(Clone, Copy, PartialEq, Eq, Debug)]
 pub enum Table {
+    /// By the gate A0h.
     A,
+    /// By the gate B0h.
     B,
+    /// By the gate C0h.
     C,
+    /// A SYSCALL outside the gates, by the number in a0.
     Sys,
 }
 
