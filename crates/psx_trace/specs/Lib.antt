@@ -1,0 +1,4 @@
+pub mod Digits
+pub mod StopText
+pub mod Line
+pub mod Plain
