@@ -24,11 +24,15 @@ general_registers regs = drop 1 (registers regs)
 abbrev pub head : ℕ → ℕ → List ℕ
 head letter count = letter ∷ 32 ∷ decimal count
 
--- the item's letter and its fields in order, parted by single spaces, and a line feed
-unfoldable pub line : Item → List ℕ
-line (B count) = head 66 count ++ codes "\n"
-line (E count cause epc gate number) = head 69 count ++ field cause ++ field epc ++ mark (gate_letter gate) ++ field number ++ codes "\n"
-line (R count at value) = head 82 count ++ field at ++ field value ++ codes "\n"
-line (W count at value) = head 87 count ++ field at ++ field value ++ codes "\n"
-line (X count pc sr regs) = head 88 count ++ field pc ++ field sr ++ field regs.hi ++ field regs.lo ++ fields (general_registers regs) ++ codes "\n"
-line (S count stop) = head 83 count ++ codes " " ++ stop_text stop ++ codes "\n"
+-- the item's letter and its fields in order, parted by single spaces
+unfoldable pub item_text : Item → List ℕ
+item_text (B count) = head 66 count
+item_text (E count cause epc gate number) = head 69 count ++ field cause ++ field epc ++ mark (gate_letter gate) ++ field number
+item_text (R count at value) = head 82 count ++ field at ++ field value
+item_text (W count at value) = head 87 count ++ field at ++ field value
+item_text (X count pc sr regs) = head 88 count ++ field pc ++ field sr ++ field regs.hi ++ field regs.lo ++ fields (general_registers regs)
+item_text (S count stop) = head 83 count ++ codes " " ++ stop_text stop
+
+-- the line of an item: its text and a line feed
+abbrev pub line : Item → List ℕ
+line item = item_text item ++ codes "\n"

@@ -12,3 +12,6 @@ pub use item::{Entered, Item, Regs};
 pub use line::line_of;
 pub use stops::{StopText, stop_text};
 pub use text::TraceLine;
+
+#[cfg(test)]
+mod tests;

@@ -2,7 +2,7 @@
 ghost use Rattle.std.specs.Prelude.{◌≡◌, ◌≤◌, ◌+◌, ◌*◌, ℕ, List, ◌++◌, length, codes};
 ghost use Rattle.arrayvec.specs.ArrayVec.{array_vec_len};
 ghost use Rattle.psx_trace.specs.Digits.{field, fields, mark};
-ghost use Rattle.psx_trace.specs.Line.{gate_letter, general_registers, head, line};
+ghost use Rattle.psx_trace.specs.Line.{gate_letter, general_registers, head, item_text, line};
 ghost use Rattle.psx_trace.specs.Plain.{entrance_of, registers_of, item_of};
 ghost use Rattle.psx_trace.specs.StopText.{stop_text};
 
@@ -40,42 +40,31 @@ fn head(letter: u8, count: u64) -> TraceLine
     text
 }
 
-// A letter, a count and nothing more.
-fn plain_line(letter: u8, count: u64) -> TraceLine
-    ensures items { result.items ≡ head letter count ++ codes "\n" }
-    ensures len { array_vec_len result ≤ 338 }
-{
-    let mut text = head(letter, count);
-    text.push(b'\n');
-    text
-}
-
-fn entry_line(count: u64, cause: u32, epc: u32, gate: Entered, number: u32) -> TraceLine
-    ensures items { result.items ≡ head 69 count ++ field cause ++ field epc ++ mark (gate_letter (entrance_of gate)) ++ field number ++ codes "\n" }
-    ensures len { array_vec_len result ≤ 338 }
+// The text of an entry.
+fn entry_text(count: u64, cause: u32, epc: u32, gate: Entered, number: u32) -> TraceLine
+    ensures items { result.items ≡ head 69 count ++ field cause ++ field epc ++ mark (gate_letter (entrance_of gate)) ++ field number }
+    ensures len { array_vec_len result ≤ 337 }
 {
     let mut text = head(b'E', count);
     put_field(&mut text, cause);
     put_field(&mut text, epc);
     put_mark(&mut text, gate_letter(gate));
     put_field(&mut text, number);
-    text.push(b'\n');
     text
 }
 
 // A port's address and a value.
-fn port_line(letter: u8, count: u64, at: u32, value: u32) -> TraceLine
-    ensures items { result.items ≡ head letter count ++ field at ++ field value ++ codes "\n" }
-    ensures len { array_vec_len result ≤ 338 }
+fn port_text(letter: u8, count: u64, at: u32, value: u32) -> TraceLine
+    ensures items { result.items ≡ head letter count ++ field at ++ field value }
+    ensures len { array_vec_len result ≤ 337 }
 {
     let mut text = head(letter, count);
     put_field(&mut text, at);
     put_field(&mut text, value);
-    text.push(b'\n');
     text
 }
 
-// The four words before the registers.
+// The text of a return up to HI and LO.
 fn return_head(count: u64, pc: u32, sr: u32, hi: u32, lo: u32) -> TraceLine
     ensures items { result.items ≡ head 88 count ++ field pc ++ field sr ++ field hi ++ field lo }
     ensures len { array_vec_len result ≤ 58 }
@@ -88,7 +77,7 @@ fn return_head(count: u64, pc: u32, sr: u32, hi: u32, lo: u32) -> TraceLine
     text
 }
 
-// Appends the registers, each behind a space.
+// Appends words, each behind a space.
 fn put_fields(text: &mut TraceLine, words: &[u32])
     requires { array_vec_len text.old + 9 * length words.now ≤ 384 }
     ensures items { text.new.items ≡ text.old.items ++ fields words.now }
@@ -99,45 +88,44 @@ fn put_fields(text: &mut TraceLine, words: &[u32])
     }
 }
 
-fn return_line(count: u64, pc: u32, sr: u32, hi: u32, lo: u32, regs: Regs) -> TraceLine
-    ensures items { result.items ≡ head 88 count ++ field pc ++ field sr ++ field hi ++ field lo ++ fields (general_registers (registers_of regs.0 hi lo)) ++ codes "\n" }
-    ensures len { array_vec_len result ≤ 338 }
+// The text of a return.
+fn return_text(count: u64, pc: u32, sr: u32, hi: u32, lo: u32, regs: Regs) -> TraceLine
+    ensures items { result.items ≡ head 88 count ++ field pc ++ field sr ++ field hi ++ field lo ++ fields (general_registers (registers_of regs.0 hi lo)) }
+    ensures len { array_vec_len result ≤ 337 }
 {
     let mut text = return_head(count, pc, sr, hi, lo);
     put_fields(&mut text, &regs.0);
-    text.push(b'\n');
     text
 }
 
-fn stop_line(count: u64, stop: Stop) -> TraceLine
-    ensures items { result.items ≡ head 83 count ++ codes " " ++ stop_text stop ++ codes "\n" }
-    ensures len { array_vec_len result ≤ 338 }
+// The text of the stop.
+fn end_text(count: u64, stop: Stop) -> TraceLine
+    ensures items { result.items ≡ head 83 count ++ codes " " ++ stop_text stop }
+    ensures len { array_vec_len result ≤ 337 }
 {
     let mut text = head(b'S', count);
     text.push(b' ');
     put(&mut text, stop_text(stop).as_slice());
-    text.push(b'\n');
     text
 }
 
-/// The line of an item: its letter and its fields in order, parted by single spaces and ended by a line feed.
-#[tactic(auto, unfolding(crate::specs::Line::line))]
-pub fn line_of(item: Item) -> TraceLine
-    ensures items { result.items ≡ line (item_of item) }
-    ensures ended { (front : List ℕ) × (result.items ≡ front ++ codes "\n") }
-    ensures fits { array_vec_len result ≤ 338 }
+// The letter and the fields of an item.
+#[tactic(auto, unfolding(crate::specs::Line::item_text))]
+fn item_text(item: Item) -> TraceLine
+    ensures items { result.items ≡ item_text (item_of item) }
+    ensures len { array_vec_len result ≤ 337 }
 {
     match item {
-        Item::B { count } => plain_line(b'B', count),
+        Item::B { count } => head(b'B', count),
         Item::E {
             count,
             cause,
             epc,
             gate,
             number,
-        } => entry_line(count, cause, epc, gate, number),
-        Item::R { count, at, value } => port_line(b'R', count, at, value),
-        Item::W { count, at, value } => port_line(b'W', count, at, value),
+        } => entry_text(count, cause, epc, gate, number),
+        Item::R { count, at, value } => port_text(b'R', count, at, value),
+        Item::W { count, at, value } => port_text(b'W', count, at, value),
         Item::X {
             count,
             pc,
@@ -145,7 +133,18 @@ pub fn line_of(item: Item) -> TraceLine
             hi,
             lo,
             regs,
-        } => return_line(count, pc, sr, hi, lo, regs),
-        Item::S { count, stop } => stop_line(count, stop),
+        } => return_text(count, pc, sr, hi, lo, regs),
+        Item::S { count, stop } => end_text(count, stop),
     }
+}
+
+/// The line of an item: its letter and its fields in order, parted by single spaces and ended by a line feed.
+pub fn line_of(item: Item) -> TraceLine
+    ensures items { result.items ≡ line (item_of item) }
+    ensures ended { (front : List ℕ) × (result.items ≡ front ++ codes "\n") }
+    ensures fits { array_vec_len result ≤ 338 }
+{
+    let mut line = item_text(item);
+    line.push(b'\n');
+    line
 }

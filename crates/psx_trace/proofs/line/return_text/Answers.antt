@@ -1,6 +1,6 @@
 use Rattle.std.proofs.Common.{arith}
 use Rattle.psx_trace.proofs.AllRegisters.{all_registers}
-use Rattle.psx_trace.proofs.line.return_line.Goals as goal
+use Rattle.psx_trace.proofs.line.return_text.Goals as goal
 
 pub returns-clause-items : goal.returns-clause-items
 returns-clause-items c =
