@@ -1,2 +1,5 @@
 pub mod DecimalSteps
 pub mod AllRegisters
+pub mod WordDigits
+pub mod Fields
+pub mod HeadParts

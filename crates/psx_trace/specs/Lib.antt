@@ -2,3 +2,4 @@ pub mod Digits
 pub mod StopText
 pub mod Line
 pub mod Plain
+pub mod Reading

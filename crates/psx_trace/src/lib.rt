@@ -3,13 +3,17 @@
 //! The crate of the top call writes the lines of a run with it, and reports a stop.
 #![tactic(auto)]
 
+pub mod candidate;
 pub mod item;
 pub mod line;
+pub mod parts;
+pub mod read;
 pub mod stops;
 pub mod text;
 
 pub use item::{Entered, Item, Regs};
 pub use line::line_of;
+pub use read::{Trace, TraceError};
 pub use stops::{StopText, stop_text};
 pub use text::TraceLine;
 

@@ -1,6 +1,6 @@
 //! Lines and texts of stops that stand in the repository's description of a trace.
 
-use crate::{Entered, Item, Regs, line_of, stop_text};
+use crate::{Entered, Item, Regs, Trace, TraceError, line_of, stop_text};
 use psx_base::{Stop, Table};
 
 const WORDS: [u32; 31] = [
@@ -168,5 +168,58 @@ fn a_stop_has_its_name_and_its_fields(rt: HostRuntime) {
     for (stop, text) in texts {
         let written = stop_text(stop);
         assert!(rt; written.as_slice() == text);
+    }
+}
+
+#[test]
+fn a_trace_is_read_to_its_items(rt: HostRuntime) {
+    let text =
+        b"B 98304\nE 98309 00000020 000000A0 A 0000003C\nW 98500 1F801070 FFFFFFFE\nS 98600 Unserved A 00000031 80010014\n";
+    let entry = Item::E {
+        count: 98309,
+        cause: 0x20,
+        epc: 0xA0,
+        gate: Entered::A,
+        number: 0x3C,
+    };
+    let stop = Stop::Unserved {
+        table: Table::A,
+        number: 0x31,
+        ra: 0x8001_0014,
+    };
+    let items = Trace::read(rt.alloc(), text);
+    let Ok(items) = items else {
+        panic!(rt; "no items");
+    };
+    let written = Item::W {
+        count: 98500,
+        at: 0x1F80_1070,
+        value: 0xFFFF_FFFE,
+    };
+    assert!(rt;
+        items.as_slice()
+            == [
+                Item::B { count: 98304 },
+                entry,
+                written,
+                Item::S { count: 98600, stop }
+            ]
+            .as_slice()
+    );
+}
+
+#[test]
+fn the_first_bad_line_is_told(rt: HostRuntime) {
+    let texts: [(&[u8], u32); 6] = [
+        (b"B 07\n", 1),
+        (b"B 7", 1),
+        (b"\n", 1),
+        (b"B 18446744073709551616\n", 1),
+        (b"B 7\nR 8 1F801070 0000000a\n", 2),
+        (b"B 7\nS 9 Budget\nS 9  Budget\n", 3),
+    ];
+    for (text, line) in texts {
+        let read = Trace::read(rt.alloc(), text);
+        assert!(rt; matches!(&read, Err(TraceError::BadLine { line: told }) if *told == line));
     }
 }
