@@ -4,12 +4,12 @@ use Rattle.std.proofs.Common.{arith, ap}
 use Rattle.psx_trace.specs.Line.{general_registers}
 use Rattle.psx_trace.specs.Plain.{registers_of}
 
-abbrev tabulate : ℕ → (ℕ → ℕ) → List ℕ
+abbrev pub tabulate : ℕ → (ℕ → ℕ) → List ℕ
 tabulate zero f = []
 tabulate (suc n) f = f 0 ∷ tabulate n (λ k. f (suc k))
 
 -- a list is its items by their numbers
-rebuilt : (n : ℕ) (xs : List ℕ) → length xs ≡ n → tabulate n (slice_index xs) ≡ xs
+pub rebuilt : (n : ℕ) (xs : List ℕ) → length xs ≡ n → tabulate n (slice_index xs) ≡ xs
 rebuilt zero [] e = refl
 rebuilt zero (x ∷ xs) e = absurd (omega arith)
 rebuilt (suc n) [] e = absurd (omega arith)

@@ -3,3 +3,5 @@ pub mod AllRegisters
 pub mod WordDigits
 pub mod Fields
 pub mod HeadParts
+pub mod StopReading
+pub mod ItemReading

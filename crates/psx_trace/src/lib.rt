@@ -3,10 +3,10 @@
 //! The crate of the top call writes the lines of a run with it, and reports a stop.
 #![tactic(auto)]
 
-pub mod candidate;
+mod candidate;
 pub mod item;
 pub mod line;
-pub mod parts;
+mod parts;
 pub mod read;
 pub mod stops;
 pub mod text;
