@@ -1,10 +1,9 @@
 -- An item is read from its line, so a line is the line of one item.
-use Rattle.std.proofs.Common.{◌≡◌, ℕ, zero, suc, ◌+◌, ◌*◌, ◌<◌, ◌^◌, List, [], ◌∷◌, ◌++◌, length, drop, take, slice_index, cond, ◌==◌, decimal, codes, refl, sym, ap, ◌∙◌, append_assoc, lit<, arith}
+use Rattle.std.proofs.Common.{◌≡◌, ℕ, zero, suc, ◌*◌, ◌<◌, ◌^◌, List, ◌∷◌, ◌++◌, length, drop, take, slice_index, cond, ◌==◌, decimal, codes, refl, sym, ap, ◌∙◌, append_assoc, lit<, arith}
 use Rattle.std.specs.Char.{is_ascii_digit}
 use Rattle.std.specs.List.{prefix_len}
 use Rattle.std.specs.Str.Parse.{digits_value}
 use Rattle.std.proofs.lemmas.Fmt.{decimal_is_IsNumeral}
-use Rattle.std.proofs.lemmas.List.{drop-drop}
 use Rattle.psx_trace.specs.declared.item.Entered.{Entered}
 use Rattle.psx_trace.specs.declared.item.Entered.TheVariants.{A, B as TableB, C, Sys, Interrupt, Done, Back, Trap}
 use Rattle.psx_trace.specs.declared.item.Item.{Item}
@@ -45,7 +44,7 @@ regs_read_is : (regs : Regs) (rest : List ℕ) → length regs.0 ≡ 31 → Ratt
 unfolding regs_read
 regs_read_is regs rest all fit =
     let words = tabulate_same 31 (λ k. word_read (drop (9 * k) (fields regs.0 ++ rest))) (slice_index regs.0)
-        (λ k below. let at = drop_fields k regs.0 rest (omega arith) in ap word_read at.1 ∙ word_read_is (slice_index regs.0 k) at.0 (fit k 0 (omega arith))) in
+    (λ k below. let at = drop_fields k regs.0 rest (omega arith) in ap word_read at.1 ∙ word_read_is (slice_index regs.0 k) at.0 (fit k 0 (omega arith))) in
     ap (λ (ws : List ℕ). let r : Regs = record { 0 = ws } in r) (words ∙ rebuilt 31 regs.0 all)
 
 -- the item of a letter, a count and fields
@@ -75,7 +74,7 @@ split : (text : List ℕ) (letter n : ℕ) (after : List ℕ) → n < 2 ^ 64 →
 unfolding item_read
 split text letter n after small low is =
     let p = parts text (drop 2 text) (take (digits_end text) (drop 2 text)) (fields_read text) (digits_end text) (count_read text) refl refl refl refl
-        (λ n small e. ap (digits_value 10) e ∙ (decimal_is_IsNumeral n small).1) letter n after small low is in
+    (λ n small e. ap (digits_value 10) e ∙ (decimal_is_IsNumeral n small).1) letter n after small low is in
     λ i. item_from (slice_index (is i) 0) (p.0 i) (p.1 i)
 
 pub item_read_is : (item : Item) (rest : List ℕ) → IsItem item → item_read (line (item_of item) ++ rest) ≡ item
@@ -85,7 +84,7 @@ item_read_is (E n cause epc gate number) rest fit =
     let after = field cause ++ (field epc ++ (mark (gate_letter (entrance_of gate)) ++ (field number ++ (10 ∷ rest)))) in
     split (line (item_of (E n cause epc gate number)) ++ rest) 69 n after fit.0 (lit< tt) (simp append_assoc)
     ∙ (λ i. E n (word_read_is cause (field epc ++ (mark (gate_letter (entrance_of gate)) ++ (field number ++ (10 ∷ rest)))) fit.1 i)
-        (word_read_is epc (mark (gate_letter (entrance_of gate)) ++ (field number ++ (10 ∷ rest))) fit.2 i) (gate_read_is gate i) (word_read_is number (10 ∷ rest) fit.3 i))
+    (word_read_is epc (mark (gate_letter (entrance_of gate)) ++ (field number ++ (10 ∷ rest))) fit.2 i) (gate_read_is gate i) (word_read_is number (10 ∷ rest) fit.3 i))
 item_read_is (R n at value) rest fit =
     split (line (item_of (R n at value)) ++ rest) 82 n (field at ++ (field value ++ (10 ∷ rest))) fit.0 (lit< tt) (simp append_assoc)
     ∙ (λ i. R n (word_read_is at (field value ++ (10 ∷ rest)) fit.1 i) (word_read_is value (10 ∷ rest) fit.2 i))
@@ -95,10 +94,10 @@ item_read_is (W n at value) rest fit =
 item_read_is (X n pc sr hi lo regs) rest fit =
     let last = fields regs.0 ++ (10 ∷ rest) in
     let is : line (item_of (X n pc sr hi lo regs)) ++ rest ≡ 88 ∷ 32 ∷ (decimal n ++ (field pc ++ (field sr ++ (field hi ++ (field lo ++ last)))))
-        = ap (λ (ws : List ℕ). ((head 88 n ++ field pc ++ field sr ++ field hi ++ field lo ++ fields ws) ++ codes "\n") ++ rest) (all_registers regs.0 hi lo fit.5) ∙ simp append_assoc in
+    = ap (λ (ws : List ℕ). ((head 88 n ++ field pc ++ field sr ++ field hi ++ field lo ++ fields ws) ++ codes "\n") ++ rest) (all_registers regs.0 hi lo fit.5) ∙ simp append_assoc in
     split (line (item_of (X n pc sr hi lo regs)) ++ rest) 88 n (field pc ++ (field sr ++ (field hi ++ (field lo ++ last)))) fit.0 (lit< tt) is
     ∙ (λ i. X n (word_read_is pc (field sr ++ (field hi ++ (field lo ++ last))) fit.1 i) (word_read_is sr (field hi ++ (field lo ++ last)) fit.2 i)
-        (word_read_is hi (field lo ++ last) fit.3 i) (word_read_is lo last fit.4 i) (regs_read_is regs (10 ∷ rest) fit.5 fit.6 i))
+    (word_read_is hi (field lo ++ last) fit.3 i) (word_read_is lo last fit.4 i) (regs_read_is regs (10 ∷ rest) fit.5 fit.6 i))
 item_read_is (S n stop) rest fit =
     split (line (item_of (S n stop)) ++ rest) 83 n (32 ∷ (stop_text stop ++ (10 ∷ rest))) fit.0 (lit< tt) (simp append_assoc) ∙ ap (S n) (stop_read_is stop rest fit.1)
 

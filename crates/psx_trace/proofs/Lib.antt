@@ -5,3 +5,5 @@ pub mod Fields
 pub mod HeadParts
 pub mod StopReading
 pub mod ItemReading
+pub mod SameItems
+pub mod StopsFit

@@ -50,9 +50,15 @@ BeginsWithNone text = (item : Item) → IsItem item → ¬ BeginsWith text item
 abbrev pub lines_of : List Item → List ℕ
 lines_of items = flat_map (λ item. line (item_of item)) items
 
+-- a text is the lines of items, in order
+pub record IsTraceOf (text : List ℕ) (items : List Item) : Type 0 where
+  pub fit : All IsItem items
+  pub is : text ≡ lines_of items
+
 -- the lines of a text before the one of this number are lines of items, and that one isn't
 pub record IsFirstBad (text : List ℕ) (number : ℕ) : Type 0 where
   pub items : List Item
+  pub fit : All IsItem items
   pub rest : List ℕ
   pub is : text ≡ lines_of items ++ rest
   pub number_is : number ≡ length items + 1

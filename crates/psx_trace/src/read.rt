@@ -1,10 +1,11 @@
 //! Reading a trace.
-ghost use Rattle.std.specs.Prelude.{◌≡◌, ◌≤◌, ◌<◌, ◌+◌, ◌^◌, ℕ, List, ◌∷◌, ◌++◌, All, Contains, IfOk, IfErr, IfSome, IfNone, IsTrue, false, length};
+ghost use Rattle.std.specs.Prelude.{◌≡◌, ◌≤◌, ◌<◌, ◌+◌, ◌^◌, ℕ, List, ◌∷◌, ◌++◌, All, Contains, IfOk, IfErr, IfSome, IfNone, IsErrOf, IsTrue, false, length};
 ghost use Rattle.psx_trace.specs.Digits.{field, fields, mark};
 ghost use Rattle.psx_trace.specs.Line.{line};
 ghost use Rattle.psx_trace.specs.Plain.{item_of};
-ghost use Rattle.psx_trace.specs.Reading.{BeginsWith, BeginsWithNone, IsWord, IsStop, lines_of, Tells};
+ghost use Rattle.psx_trace.specs.Reading.{BeginsWith, BeginsWithNone, IsStop, IsItem, IsTraceOf, Tells};
 ghost use Rattle.psx_trace.specs.StopText.{stop_text, table_letter};
+ghost use Rattle.psx_trace.specs.declared.item.Item.{Item};
 ghost use Rattle.psx_base.specs.declared.stop.Stop.{Stop};
 ghost use Rattle.psx_base.specs.declared.stop.Table.{Table};
 
@@ -37,7 +38,8 @@ fn begins_with(text: &[u8], item: Item) -> bool
 
 // The first of some items whose line a text begins with.
 fn first_of(text: &[u8], items: &[Item]) -> Option<Item>
-    ensures found { IfSome result (λ item. BeginsWith text.now item) }
+    requires { All IsItem items.now }
+    ensures found { IfSome result (λ item. IsItem item × BeginsWith text.now item) }
     ensures none { IfNone result (All (λ item. ¬ BeginsWith text.now item) items.now) }
 {
     for item in items {
@@ -50,7 +52,8 @@ fn first_of(text: &[u8], items: &[Item]) -> Option<Item>
 
 // The first of some stops whose line with this count a text begins with.
 fn first_stop(text: &[u8], count: u64, stops: &[Stop]) -> Option<Item>
-    ensures found { IfSome result (λ item. BeginsWith text.now item) }
+    requires { All IsStop stops.now }
+    ensures found { IfSome result (λ item. IsItem item × BeginsWith text.now item) }
     ensures none { IfNone result (All (λ stop. ¬ BeginsWith text.now (Item.S count stop)) stops.now) }
 {
     for stop in stops {
@@ -76,7 +79,8 @@ fn table_of(letter: u8) -> Table
 
 // For each kind of stop, the one stop that fields can tell of.
 fn stops_of(fields: &[u8]) -> [Stop; 12]
-    ensures { (stop : Stop) (rest : List ℕ) → IsStop stop → fields.now ≡ 32 ∷ (stop_text stop ++ rest) → Contains result stop }
+    ensures fit { All IsStop result }
+    ensures value { (stop : Stop) (rest : List ℕ) → IsStop stop → fields.now ≡ 32 ∷ (stop_text stop ++ rest) → Contains result stop }
 {
     let table = table_of(byte_at(fields, 10));
     let after_four = word_after(fields, 5);
@@ -117,7 +121,7 @@ fn stops_of(fields: &[u8]) -> [Stop; 12]
 
 // The item whose line a text begins with.
 fn read_line(text: &[u8]) -> Option<Item>
-    ensures found { IfSome result (λ item. BeginsWith text.now item) }
+    ensures found { IfSome result (λ item. IsItem item × BeginsWith text.now item) }
     ensures none { IfNone result (BeginsWithNone text.now) }
 {
     let body = skip(text, 2);
@@ -152,8 +156,10 @@ impl Trace {
     /// The items whose lines a text is. A text of no bytes has no items. The last line has its line feed too.
     pub fn read(alloc: Global, text: &[u8]) -> Result<Vec<Item>, TraceError>
         requires { length text.now < 2 ^ 32 }
-        ensures items { IfOk result (λ v. text.now ≡ lines_of v.items) }
+        ensures items { IfOk result (λ v. IsTraceOf text.now v.items) }
+        ensures only { IfOk result (λ v. (items : List Item) → IsTraceOf text.now items → items ≡ v.items) }
         ensures error { IfErr result (λ e. Tells text.now e) }
+        ensures bad { (line : ℕ) → IsErrOf result (TraceError.BadLine line) → (items : List Item) → ¬ IsTraceOf text.now items }
     {
         let mut items = Vec::new(alloc);
         let mut rest = text;
@@ -163,9 +169,9 @@ impl Trace {
                     line: items.len() as u32 + 1,
                 });
             };
-            if items.push(item).is_err() {
+            let Ok(()) = items.push(item) else {
                 return Err(TraceError::Memory);
-            }
+            };
             rest = skip(rest, line_len(item));
         }
         Ok(items)

@@ -1,12 +1,15 @@
 use Rattle.std.proofs.Common.{◌≢◌, ◌<◌, ◌*◌, ℕ, List, length, drop, get_or, get_or-set_other, get_or-set_same, length-set, below_more, sym, ap, ◌∙◌, arith}
 use Rattle.std.proofs.lemmas.List.{drop-drop, ext_get_or}
 use Rattle.psx_trace.specs.declared.item.Regs.{Regs}
+use Rattle.std.proofs.lemmas.List.Elements.{All-set}
+use Rattle.psx_trace.specs.Reading.{IsWord}
 use Rattle.psx_trace.proofs.Fields.{drop_fields}
 use Rattle.psx_trace.proofs.candidate.regs_after.Goals as goal
 
 pub loop-number-preserved : goal.loop-number-preserved
 loop-number-preserved c = record {
   len = omega (arith, length-set {A = ℕ});
+  fit = All-set IsWord c.loop-number.words c.loop-number.number c.word_after.result c.word_after.type_inv c.loop-number.invariant.fit;
   same = λ regs rest all fit e.
       let i = c.loop-number.number in
       let here : i < length regs.0 = omega arith in
@@ -18,7 +21,7 @@ loop-number-preserved c = record {
       (let lt : c.loop-number.number < length c.loop-number.words = omega arith in rw get_or-set_same same);
 }
 
-pub returns : goal.returns
-returns c regs rest all fit e =
+pub returns-clause-value : goal.returns-clause-value
+returns-clause-value c regs rest all fit e =
     ap (λ (words : List ℕ). let regs : Regs = record { 0 = words } in regs)
     (ext_get_or 0 c.loop-number.words regs.0 (omega arith) (λ k h. c.loop-number.invariant.same regs rest all fit e k (omega arith)))
