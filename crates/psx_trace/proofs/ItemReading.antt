@@ -1,5 +1,5 @@
 -- An item is read from its line, so a line is the line of one item.
-use Rattle.std.proofs.Common.{◌≡◌, ℕ, zero, suc, ◌*◌, ◌<◌, ◌^◌, List, ◌∷◌, ◌++◌, length, drop, take, slice_index, cond, ◌==◌, decimal, codes, refl, sym, ap, ◌∙◌, append_assoc, lit<, arith}
+use Rattle.std.proofs.Common.{◌≡◌, ℕ, zero, suc, ◌*◌, ◌<◌, ◌^◌, List, ◌∷◌, ◌++◌, All, length, drop, take, slice_index, cond, ◌==◌, decimal, codes, refl, sym, ap, ◌∙◌, append_assoc, lit<, arith}
 use Rattle.std.specs.Char.{is_ascii_digit}
 use Rattle.std.specs.List.{prefix_len}
 use Rattle.std.specs.Str.Parse.{digits_value}
@@ -12,7 +12,7 @@ use Rattle.psx_trace.specs.declared.item.Regs.{Regs}
 use Rattle.psx_trace.specs.Digits.{hex8, field, fields, mark}
 use Rattle.psx_trace.specs.Line.{head, gate_letter, item_text, line}
 use Rattle.psx_trace.specs.Plain.{entrance_of, item_of}
-use Rattle.psx_trace.specs.Reading.{IsWord, IsItem}
+use Rattle.psx_trace.specs.Reading.{IsWord, IsItem, BeginsWith}
 use Rattle.psx_trace.specs.StopText.{stop_text}
 use Rattle.psx_trace.proofs.AllRegisters.{tabulate, rebuilt, all_registers}
 use Rattle.psx_trace.proofs.Fields.{drop_fields}
@@ -40,7 +40,7 @@ tabulate_same (suc n) f g same = λ i. same 0 (omega arith) i ∷ tabulate_same 
 regs_read : List ℕ → Regs
 regs_read t = record { 0 = tabulate 31 (λ k. word_read (drop (9 * k) t)) }
 
-regs_read_is : (regs : Regs) (rest : List ℕ) → length regs.0 ≡ 31 → Rattle.std.specs.List.All IsWord regs.0 → regs_read (fields regs.0 ++ rest) ≡ regs
+regs_read_is : (regs : Regs) (rest : List ℕ) → length regs.0 ≡ 31 → All IsWord regs.0 → regs_read (fields regs.0 ++ rest) ≡ regs
 unfolding regs_read
 regs_read_is regs rest all fit =
     let words = tabulate_same 31 (λ k. word_read (drop (9 * k) (fields regs.0 ++ rest))) (slice_index regs.0)
@@ -102,5 +102,5 @@ item_read_is (S n stop) rest fit =
     split (line (item_of (S n stop)) ++ rest) 83 n (32 ∷ (stop_text stop ++ (10 ∷ rest))) fit.0 (lit< tt) (simp append_assoc) ∙ ap (S n) (stop_read_is stop rest fit.1)
 
 -- a text begins with the line of one item at most
-pub same_item : (a b : Item) (text : List ℕ) → IsItem a → IsItem b → Rattle.psx_trace.specs.Reading.BeginsWith text a → Rattle.psx_trace.specs.Reading.BeginsWith text b → a ≡ b
+pub same_item : (a b : Item) (text : List ℕ) → IsItem a → IsItem b → BeginsWith text a → BeginsWith text b → a ≡ b
 same_item a b text fit_a fit_b at_a at_b = sym (item_read_is a at_a.0 fit_a) ∙ ap item_read (sym at_a.1 ∙ at_b.1) ∙ item_read_is b at_b.0 fit_b

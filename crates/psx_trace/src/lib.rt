@@ -1,5 +1,6 @@
-//! The items of a trace, and the lines that tell them.
-//! A line is the definition `line` of the plain item, and a stop's text the definition `stop_text`.
+//! The items of a trace, the lines that tell them, and the reader of such lines.
+//! A line is the definition `line` of the plain item, a stop's text the definition `stop_text`,
+//! and what is read is the one list of items that `IsTraceOf` the text.
 //! The crate of the top call writes the lines of a run with it, and reports a stop.
 #![tactic(auto)]
 

@@ -42,7 +42,8 @@ fn head(letter: u8, count: u64) -> TraceLine
 
 // The text of an entry.
 fn entry_text(count: u64, cause: u32, epc: u32, gate: Entered, number: u32) -> TraceLine
-    ensures items { result.items ≡ head 69 count ++ field cause ++ field epc ++ mark (gate_letter (entrance_of gate)) ++ field number }
+    ensures items { result.items ≡ head 69 count ++ field cause ++ field epc
+        ++ mark (gate_letter (entrance_of gate)) ++ field number }
     ensures len { array_vec_len result ≤ 337 }
 {
     let mut text = head(b'E', count);
@@ -90,7 +91,8 @@ fn put_fields(text: &mut TraceLine, words: &[u32])
 
 // The text of a return.
 fn return_text(count: u64, pc: u32, sr: u32, hi: u32, lo: u32, regs: Regs) -> TraceLine
-    ensures items { result.items ≡ head 88 count ++ field pc ++ field sr ++ field hi ++ field lo ++ fields (general_registers (registers_of regs.0 hi lo)) }
+    ensures items { result.items ≡ head 88 count ++ field pc ++ field sr ++ field hi ++ field lo
+        ++ fields (general_registers (registers_of regs.0 hi lo)) }
     ensures len { array_vec_len result ≤ 337 }
 {
     let mut text = return_head(count, pc, sr, hi, lo);

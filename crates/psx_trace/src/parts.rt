@@ -1,4 +1,4 @@
-//! Numbers read from a text. Where no number stands, each gives some number: a line that is read is compared with its item's line.
+//! Numbers read from a text. Where no number stands, each gives some number: what is read is compared with its own line.
 ghost use Rattle.std.specs.Prelude.{◌≡◌, ◌≤◌, ◌<◌, ◌+◌, ◌*◌, ◌^◌, ℕ, List, ◌++◌, length, drop, take, decimal, slice_index};
 ghost use Rattle.std.specs.Char.{is_ascii_digit};
 ghost use Rattle.std.specs.List.{prefix_len};

@@ -80,7 +80,8 @@ fn table_of(letter: u8) -> Table
 // For each kind of stop, the one stop that fields can tell of.
 fn stops_of(fields: &[u8]) -> [Stop; 12]
     ensures fit { All IsStop result }
-    ensures value { (stop : Stop) (rest : List ℕ) → IsStop stop → fields.now ≡ 32 ∷ (stop_text stop ++ rest) → Contains result stop }
+    ensures value { (stop : Stop) (rest : List ℕ) → IsStop stop
+        → fields.now ≡ 32 ∷ (stop_text stop ++ rest) → Contains result stop }
 {
     let table = table_of(byte_at(fields, 10));
     let after_four = word_after(fields, 5);
@@ -153,13 +154,15 @@ fn line_len(item: Item) -> usize
 }
 
 impl Trace {
-    /// The items whose lines a text is. A text of no bytes has no items. The last line has its line feed too.
+    /// The items whose lines a text is: there is one such list at most. A text of no bytes has no items, and the last line
+    /// has its line feed too. Else the first line that isn't the line of an item, by its number from 1 on.
     pub fn read(alloc: Global, text: &[u8]) -> Result<Vec<Item>, TraceError>
         requires { length text.now < 2 ^ 32 }
         ensures items { IfOk result (λ v. IsTraceOf text.now v.items) }
         ensures only { IfOk result (λ v. (items : List Item) → IsTraceOf text.now items → items ≡ v.items) }
         ensures error { IfErr result (λ e. Tells text.now e) }
-        ensures bad { (line : ℕ) → IsErrOf result (TraceError.BadLine line) → (items : List Item) → ¬ IsTraceOf text.now items }
+        ensures bad { (line : ℕ) → IsErrOf result (TraceError.BadLine line)
+            → (items : List Item) → ¬ IsTraceOf text.now items }
     {
         let mut items = Vec::new(alloc);
         let mut rest = text;

@@ -69,8 +69,8 @@ fn with_table(name: &[u8], table: Table, first: u32, second: u32) -> StopText
     text
 }
 
-/// The text of a stop: its name and its fields in order, each behind a space. A word has eight hexadecimal digits with capitals,
-/// a table its letter, as in `Unserved A 00000031 80010014`.
+/// The text of a stop: its name and its fields in order, each behind a space. A word has eight hexadecimal digits
+/// with capitals, a table its letter, as in `Unserved A 00000031 80010014`.
 #[tactic(auto, unfolding(crate::specs::StopText::stop_text))]
 pub fn stop_text(stop: Stop) -> StopText
     ensures items { result.items ≡ stop_text stop }
