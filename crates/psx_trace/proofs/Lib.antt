@@ -1,0 +1,9 @@
+pub mod DecimalSteps
+pub mod AllRegisters
+pub mod WordDigits
+pub mod Fields
+pub mod HeadParts
+pub mod StopReading
+pub mod ItemReading
+pub mod SameItems
+pub mod StopsFit
