@@ -50,6 +50,7 @@ pub(crate) fn read_word(ram: &Ram, at: u32) -> u32
 }
 
 #[tactic(auto, unfolding(crate::specs::DataAccess::read_half))]
+#[inline]
 pub(crate) fn read_half(ram: &Ram, at: u32) -> u16
     requires { at % 2 ≡ 0 }
     ensures { result ≡ DataAccess.read_half ram.now at }
@@ -59,6 +60,7 @@ pub(crate) fn read_half(ram: &Ram, at: u32) -> u16
 }
 
 #[tactic(auto, unfolding(crate::specs::DataAccess::read_byte))]
+#[inline]
 pub(crate) fn read_byte(ram: &Ram, at: u32) -> u8
     ensures { result ≡ DataAccess.read_byte ram.now at }
 {
@@ -67,6 +69,7 @@ pub(crate) fn read_byte(ram: &Ram, at: u32) -> u8
 }
 
 #[tactic(auto, unfolding(crate::specs::DataAccess::write_word))]
+#[inline]
 pub(crate) fn write_word(ram: &mut Ram, at: u32, value: u32)
     requires { at % 4 ≡ 0 }
     ensures { ram.new ≡ DataAccess.write_word ram.old at value }
@@ -78,6 +81,7 @@ pub(crate) fn write_word(ram: &mut Ram, at: u32, value: u32)
 }
 
 #[tactic(auto, unfolding(crate::specs::DataAccess::write_half))]
+#[inline]
 pub(crate) fn write_half(ram: &mut Ram, at: u32, value: u16)
     requires { at % 2 ≡ 0 }
     ensures { ram.new ≡ DataAccess.write_half ram.old at value }
@@ -89,6 +93,7 @@ pub(crate) fn write_half(ram: &mut Ram, at: u32, value: u16)
 }
 
 #[tactic(auto, unfolding(crate::specs::DataAccess::write_byte))]
+#[inline]
 pub(crate) fn write_byte(ram: &mut Ram, at: u32, value: u8)
     ensures { ram.new ≡ DataAccess.write_byte ram.old at value }
 {

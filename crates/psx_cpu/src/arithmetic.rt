@@ -19,6 +19,7 @@ pub(crate) fn difference_overflows(s: u32, t: u32) -> bool
 }
 
 // 8 bits with the sign copied.
+#[inline]
 pub(crate) fn byte_extended(value: u8) -> u32
     ensures { result ≡ Words.byte_extended value }
 {
@@ -30,6 +31,7 @@ pub(crate) fn byte_extended(value: u8) -> u32
 }
 
 // 16 bits with the sign copied.
+#[inline]
 pub(crate) fn sign_extended(imm: u16) -> u32
     ensures { result ≡ Words.sign_extended imm }
 {
@@ -41,6 +43,7 @@ pub(crate) fn sign_extended(imm: u16) -> u32
 }
 
 // Shifted left, and what passes 32 bits is lost.
+#[inline]
 pub(crate) fn shifted_left(t: u32, n: u32) -> u32
     requires { n < 32 }
     ensures { result ≡ t * 2 ^ n % 2 ^ 32 }
@@ -49,6 +52,7 @@ pub(crate) fn shifted_left(t: u32, n: u32) -> u32
 }
 
 // Shifted right, with zeros.
+#[inline]
 pub(crate) fn shifted_right(t: u32, n: u32) -> u32
     requires { n < 32 }
     ensures { result ≡ t / 2 ^ n }
@@ -57,6 +61,7 @@ pub(crate) fn shifted_right(t: u32, n: u32) -> u32
 }
 
 // Shifted right, with the sign copied.
+#[inline]
 pub(crate) fn shifted_signed(t: u32, n: u32) -> u32
     requires { n < 32 }
     ensures { result ≡ Words.shifted_signed t n }
@@ -65,6 +70,7 @@ pub(crate) fn shifted_signed(t: u32, n: u32) -> u32
 }
 
 // 1 where s is less, both signed, else 0.
+#[inline]
 pub(crate) fn is_less_signed(s: u32, t: u32) -> u32
     ensures { result ≡ Words.truth (int_lt (signed s) (signed t)) }
 {
@@ -72,12 +78,14 @@ pub(crate) fn is_less_signed(s: u32, t: u32) -> u32
 }
 
 // 1 where s is less, else 0.
+#[inline]
 pub(crate) fn is_less(s: u32, t: u32) -> u32
     ensures { result ≡ Words.truth (nat_lt s t) }
 {
     (s < t) as u32
 }
 
+#[inline]
 pub(crate) fn is_negative(s: u32) -> bool
     ensures { result ≡ nat_le (2 ^ 31) s }
 {
@@ -85,12 +93,14 @@ pub(crate) fn is_negative(s: u32) -> bool
 }
 
 // Whether a signed word is 0 or less.
+#[inline]
 pub(crate) fn is_not_above(s: u32) -> bool
     ensures { result ≡ (nat_le (2 ^ 31) s || nat_eq s 0) }
 {
     s >= 0x8000_0000 || s == 0
 }
 
+#[inline]
 pub(crate) fn nor(s: u32, t: u32) -> u32
     ensures { result ≡ 2 ^ 32 - 1 - bit_or s t }
 {

@@ -68,6 +68,7 @@ impl Cpu {
     }
 
     /// A general register, without the pending load.
+    #[inline]
     pub fn reg(&self, n: Reg) -> u32
         requires { n.0 < 32 }
         ensures { result ≡ register self.now.context.regs n.0 }
@@ -76,6 +77,7 @@ impl Cpu {
     }
 
     /// The upper word of products, and remainders.
+    #[inline]
     pub fn hi(&self) -> u32
         ensures { result ≡ self.now.context.regs.hi }
     {
@@ -83,6 +85,7 @@ impl Cpu {
     }
 
     /// The lower word of products, and quotients.
+    #[inline]
     pub fn lo(&self) -> u32
         ensures { result ≡ self.now.context.regs.lo }
     {
@@ -90,6 +93,7 @@ impl Cpu {
     }
 
     /// The address of the coming instruction.
+    #[inline]
     pub fn pc(&self) -> u32
         ensures { result ≡ self.now.context.pc }
     {
@@ -97,6 +101,7 @@ impl Cpu {
     }
 
     /// The address of the instruction after the coming one.
+    #[inline]
     pub fn next_pc(&self) -> u32
         ensures { result ≡ self.now.context.next }
     {
@@ -104,6 +109,7 @@ impl Cpu {
     }
 
     /// Whether the coming instruction is in a delay slot.
+    #[inline]
     pub fn in_slot(&self) -> bool
         ensures { result ≡ self.now.context.in_slot }
     {
@@ -111,6 +117,7 @@ impl Cpu {
     }
 
     /// The status register.
+    #[inline]
     pub fn sr(&self) -> u32
         ensures { result ≡ self.now.cop0.sr }
     {
@@ -139,6 +146,7 @@ impl Cpu {
     }
 
     /// Whether the processor is on the kernel's side.
+    #[inline]
     pub fn latch(&self) -> bool
         ensures { result ≡ self.now.latch }
     {
@@ -146,6 +154,7 @@ impl Cpu {
     }
 
     // Writes a register. r0 stays 0.
+    #[inline]
     fn put(&mut self, n: u32, value: u32)
         requires { n < 32 }
         ensures { self.new ≡ record self.old { context = with_value self.old.context n value } }
@@ -156,6 +165,7 @@ impl Cpu {
     }
 
     // Writes the pending load.
+    #[inline]
     fn settle(&mut self)
         ensures { self.new ≡ record self.old { context = settle self.old.context } }
     {
@@ -163,6 +173,7 @@ impl Cpu {
         self.pending = 0;
     }
 
+    #[inline]
     fn forth(&mut self)
         ensures { self.new ≡ record self.old { context = Changes.forth self.old.context } }
     {
@@ -171,6 +182,7 @@ impl Cpu {
         self.in_slot = false;
     }
 
+    #[inline]
     fn through_slot(&mut self, to: u32)
         ensures { self.new ≡ record self.old { context = Changes.through_slot self.old.context to } }
     {
@@ -180,6 +192,7 @@ impl Cpu {
     }
 
     // On to the next instruction, after one that changes no register.
+    #[inline]
     pub(crate) fn pass(&mut self)
         ensures { self.new ≡ record self.old { context = Changes.forth (settle self.old.context) } }
     {
@@ -188,6 +201,7 @@ impl Cpu {
     }
 
     // The result of an instruction.
+    #[inline]
     pub(crate) fn write(&mut self, d: Reg, value: u32)
         requires { d.0 < 32 }
         ensures { self.new ≡ record self.old { context = Changes.forth (with_value (settle self.old.context) d.0 value) } }
@@ -198,6 +212,7 @@ impl Cpu {
     }
 
     // The results of a product or quotient.
+    #[inline]
     pub(crate) fn write_hi_lo(&mut self, hi: u32, lo: u32)
         ensures { self.new ≡ record self.old { context = let c = settle self.old.context in Changes.forth (record c { regs = record c.regs { hi = hi; lo = lo } }) } }
     {
@@ -207,6 +222,7 @@ impl Cpu {
         self.forth();
     }
 
+    #[inline]
     pub(crate) fn jump(&mut self, to: u32)
         ensures { self.new ≡ record self.old { context = Changes.through_slot (settle self.old.context) to } }
     {
@@ -215,6 +231,7 @@ impl Cpu {
     }
 
     // A jump with the address after the slot in a register.
+    #[inline]
     pub(crate) fn link(&mut self, n: u32, to: u32)
         requires { n < 32 }
         ensures { self.new ≡ record self.old { context = Changes.through_slot (with_value (settle self.old.context) n (link_address self.old.context)) to } }
@@ -224,6 +241,7 @@ impl Cpu {
         self.through_slot(to);
     }
 
+    #[inline]
     pub(crate) fn branch_target(&self, taken: bool, imm: u16) -> u32
         ensures { result ≡ branch_target self.now.context taken imm }
     {
@@ -235,6 +253,7 @@ impl Cpu {
         }
     }
 
+    #[inline]
     pub(crate) fn jump_target(&self, target: u32) -> u32
         requires { target < 2 ^ 26 }
         ensures { result ≡ Changes.jump_target self.now.context target }
@@ -243,6 +262,7 @@ impl Cpu {
     }
 
     // The value of a load, which comes one instruction later.
+    #[inline]
     pub(crate) fn load(&mut self, t: Reg, value: u32)
         requires { t.0 < 32 }
         ensures { self.new ≡ record self.old { context = let c = self.old.context in Changes.forth (record c { regs = if names c.pending t.0 then c.regs else settled c.regs c.pending; pending = coming t.0 value }) } }
@@ -289,6 +309,7 @@ impl Cpu {
     }
 
     // Whether an interrupt is taken where a line is pending.
+    #[inline]
     pub(crate) fn takes_interrupt(&self, line: bool) -> bool
         ensures { result ≡ Exceptions.takes_interrupt self.now line }
     {

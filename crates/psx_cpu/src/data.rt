@@ -19,6 +19,7 @@ use psx_ins::reg::Reg;
 use psx_ram::Ram;
 
 impl Cpu {
+    #[inline]
     pub(crate) fn data_address(&self, s: Reg, imm: u16) -> u32
         requires { s.0 < 32 }
         ensures { result ≡ DataAccess.data_address self.now.context s imm }
@@ -27,6 +28,7 @@ impl Cpu {
     }
 
     // Whether an access to an address passes the guard.
+    #[inline]
     fn may_use(&self, at: u32) -> bool
         ensures { result ≡ (self.now.latch || user at) }
     {

@@ -21,6 +21,7 @@ use psx_ins::reg::Reg;
 
 impl Cpu {
     // A result in a register.
+    #[inline]
     pub(crate) fn gives(&mut self, d: Reg, value: u32) -> Did
         requires { d.0 < 32 }
         ensures cpu { self.new ≡ record self.old { context = forth (with_value (settle self.old.context) d.0 value) } }
@@ -31,6 +32,7 @@ impl Cpu {
     }
 
     // Results in HI and LO.
+    #[inline]
     pub(crate) fn gives_hi_lo(&mut self, hi: u32, lo: u32) -> Did
         ensures cpu { self.new ≡ record self.old { context = let c = settle self.old.context in forth (record c { regs = record c.regs { hi = hi; lo = lo } }) } }
         ensures told { result ≡ Did.Plain }
@@ -134,6 +136,7 @@ impl Cpu {
     }
 
     // A jump, which is barred in a delay slot of the user's.
+    #[inline]
     pub(crate) fn goes_to(&mut self, to: u32) -> Did
         ensures { (m : Memory) → Does (core_of self.old m)
             (if self.old.context.in_slot && not self.old.latch then Stops (SlotBranch self.old.context.pc) else Goes (core_of (record self.old { context = through_slot (settle self.old.context) to }) m))
@@ -147,6 +150,7 @@ impl Cpu {
     }
 
     // A jump with the address after the slot in a register.
+    #[inline]
     pub(crate) fn calls(&mut self, n: u32, to: u32) -> Did
         requires { n < 32 }
         ensures { (m : Memory) → Does (core_of self.old m)
@@ -161,6 +165,7 @@ impl Cpu {
         Did::Plain
     }
 
+    #[inline]
     pub(crate) fn branches(&mut self, taken: bool, imm: u16) -> Did
         ensures { (m : Memory) → Does (core_of self.old m)
             (if self.old.context.in_slot && not self.old.latch then Stops (SlotBranch self.old.context.pc)
@@ -170,6 +175,7 @@ impl Cpu {
         self.goes_to(self.branch_target(taken, imm))
     }
 
+    #[inline]
     pub(crate) fn branches_and_links(&mut self, taken: bool, imm: u16) -> Did
         ensures { (m : Memory) → Does (core_of self.old m)
             (if self.old.context.in_slot && not self.old.latch then Stops (SlotBranch self.old.context.pc)

@@ -18,6 +18,7 @@ impl Cpu {
     /// The port that the coming step reads, where `line` says whether a pending line isn't masked. Nothing changes.
     /// Only LW on the kernel's side reads ports: the guard keeps the user's from them.
     #[tactic(auto, using(crate::proofs::PortReads::port_reads))]
+    #[inline]
     pub fn peek_port(&self, ram: &Ram, line: bool) -> Option<PortRead>
         ensures { (value : ℕ) → option_map (λ p. p.at) result ≡ port_read (step (core_of self.now ram.now) (record { line = line; value = value })) }
     {

@@ -30,16 +30,18 @@ pub struct PortRead {
     pub at: u32,
 }
 
-/// What a step did. Addresses are physical.
+/// What a step did.
 #[derive(Clone, Copy, PartialEq, Eq, Debug)]
 pub enum Did {
     /// No port was reached, and the side stayed.
     Plain,
+    /// LW read a port: its physical address, and the answer.
     PortRead { at: u32, value: u32 },
+    /// SW wrote a port: its physical address, and the word.
     PortWrite { at: u32, value: u32 },
-    /// An exception or interrupt was taken.
+    /// An exception or interrupt was taken. Its code is that of Cause: 0 is an interrupt (R3000A manual, exception processing).
     Entered { code: u32 },
-    /// RFE was executed.
+    /// RFE was executed, and the processor is on the user's side.
     Left,
     /// The guard stopped it. Nothing has changed.
     Stopped(Stop),
@@ -62,6 +64,7 @@ fn reserved_code(word: u32) -> u32
 
 impl Cpu {
     // Whether the coming instruction may be fetched.
+    #[inline]
     fn may_fetch(&self) -> bool
         ensures { result ≡ (self.now.latch || (user self.now.context.pc || is_some (gate_of self.now.context.pc))) }
     {
