@@ -137,3 +137,6 @@ impl Ports {
         }
     }
 }
+
+#[cfg(test)]
+mod tests;
