@@ -132,6 +132,13 @@ impl Board {
         self.stopped
     }
 
+    /// Whether a line that isn't masked is pending, as the coming step finds it.
+    pub fn line(&self) -> bool
+        ensures { (m : Machine) → Stands (view_of self.now) m → result ≡ History.line m.history }
+    {
+        self.ports.line()
+    }
+
     /// The processor.
     pub fn cpu(&self) -> &Cpu
         ensures { result.now ≡ (view_of self.now).core.processor }
@@ -163,7 +170,7 @@ impl Board {
         requires running { (view_of self.old).stopped ≡ None }
         requires room { (view_of self.old).taken < 2 ^ 64 - 1 }
         requires port { IsPortDid did }
-        ensures { (m : Machine) (move : Move) → StandsFor (view_of self.old).ports m.history → (view_of self.old).taken ≡ m.taken → Does m.core move did (view_of self.old).core → Turned (by_move m move) result (view_of self.new) }
+        ensures { (m : Machine) (move : Move) → StandsFor (view_of self.old).ports m.history → (view_of self.old).taken ≡ m.taken → Does m.core move did (view_of self.old).core → Turned m (by_move m move) result (view_of self.new) }
     {
         match did {
             Did::PortWrite { at, value } => self.finish_write(at, value),
@@ -181,7 +188,7 @@ impl Board {
         requires room { (view_of self.old).taken < 2 ^ 64 - 1 }
         requires port { IsTrue (port at) }
         ensures { (m : Machine) → StandsFor (view_of self.old).ports m.history → (view_of self.old).taken ≡ m.taken → (view_of self.old).core ≡ m.core →
-            Turned (after_write m at value (written m.history at value)) result (view_of self.new) }
+            Turned m (after_write m at value (written m.history at value)) result (view_of self.new) }
     {
         self.taken += 1;
         match self.ports.write(at, value) {
@@ -214,7 +221,7 @@ impl Board {
     pub fn step(&mut self) -> Did
         requires running { (view_of self.old).stopped ≡ None }
         requires room { (view_of self.old).taken < 2 ^ 64 - 1 }
-        ensures turns { (m : Machine) → Stands (view_of self.old) m → Turned (turn m) result (view_of self.new) }
+        ensures turns { (m : Machine) → Stands (view_of self.old) m → Turned m (turn m) result (view_of self.new) }
     {
         let line = self.ports.line();
         let value = self.ask(line);
