@@ -1,0 +1,7 @@
+//! The top call: what the program does with the words of its command line, over any host.
+//! A run's texts are those of the board's run of the image; the program `psxk` gives it a host over real files.
+#![tactic(auto)]
+
+pub mod run;
+
+pub use run::{RunEnd, run_on};
