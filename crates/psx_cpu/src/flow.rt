@@ -1,5 +1,5 @@
 //! Results, branches and exceptions, each told as what a step did.
-ghost use Rattle.std.specs.Prelude.{◌≡◌, ◌+◌, ◌*◌, ◌-◌, ◌/◌, ◌%◌, ◌^◌, ◌<◌, ◌+ℤ◌, ◌-ℤ◌, ◌*ℤ◌, ◌&&◌, not, nat_eq, None, if◌then◌else◌, Bool};
+ghost use Rattle.std.specs.Prelude.{◌≡◌, ◌*◌, ◌/◌, ◌%◌, ◌^◌, ◌<◌, ◌*ℤ◌, ◌&&◌, not, if◌then◌else◌};
 ghost use Rattle.std.specs.Int.{w64, cast_unsigned};
 ghost use Rattle.psx_base.specs.Memory.{Memory};
 ghost use Rattle.psx_base.specs.Registers.{register};
