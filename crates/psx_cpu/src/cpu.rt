@@ -1,5 +1,5 @@
 //! The processor's registers, and the ways in which an instruction changes them.
-ghost use Rattle.std.specs.Prelude.{◌≡◌, ℕ, ◌+◌, ◌*◌, ◌/◌, ◌%◌, ◌^◌, ◌<◌, Bool, IsTrue, nat_eq, if◌then◌else◌};
+ghost use Rattle.std.specs.Prelude.{◌≡◌, ◌+◌, ◌^◌, ◌<◌, nat_eq, if◌then◌else◌};
 ghost use Rattle.psx_base.specs.Registers.{register};
 ghost use Rattle.psx_cpu.specs.Changes;
 ghost use Rattle.psx_cpu.specs.Exceptions;
