@@ -170,7 +170,8 @@ impl Board {
         requires running { (view_of self.old).stopped ≡ None }
         requires room { (view_of self.old).taken < 2 ^ 64 - 1 }
         requires port { IsPortDid did }
-        ensures { (m : Machine) (move : Move) → StandsFor (view_of self.old).ports m.history → (view_of self.old).taken ≡ m.taken → Does m.core move did (view_of self.old).core → Turned m (by_move m move) result (view_of self.new) }
+        ensures counted { (view_of self.new).taken ≤ (view_of self.old).taken + 1 }
+        ensures turned { (m : Machine) (move : Move) → StandsFor (view_of self.old).ports m.history → (view_of self.old).taken ≡ m.taken → Does m.core move did (view_of self.old).core → Turned m (by_move m move) result (view_of self.new) }
     {
         match did {
             Did::PortWrite { at, value } => self.finish_write(at, value),
@@ -187,7 +188,8 @@ impl Board {
         requires running { (view_of self.old).stopped ≡ None }
         requires room { (view_of self.old).taken < 2 ^ 64 - 1 }
         requires port { IsTrue (port at) }
-        ensures { (m : Machine) → StandsFor (view_of self.old).ports m.history → (view_of self.old).taken ≡ m.taken → (view_of self.old).core ≡ m.core →
+        ensures counted { (view_of self.new).taken ≤ (view_of self.old).taken + 1 }
+        ensures turned { (m : Machine) → StandsFor (view_of self.old).ports m.history → (view_of self.old).taken ≡ m.taken → (view_of self.old).core ≡ m.core →
             Turned m (after_write m at value (written m.history at value)) result (view_of self.new) }
     {
         self.taken += 1;
@@ -222,6 +224,7 @@ impl Board {
         requires running { (view_of self.old).stopped ≡ None }
         requires room { (view_of self.old).taken < 2 ^ 64 - 1 }
         ensures turns { (m : Machine) → Stands (view_of self.old) m → Turned m (turn m) result (view_of self.new) }
+        ensures counted { (view_of self.new).taken ≤ (view_of self.old).taken + 1 }
     {
         let line = self.ports.line();
         let value = self.ask(line);
