@@ -10,7 +10,7 @@ ghost use Rattle.psx_exe.specs.Reading.{IsReadable};
 ghost use Rattle.psx_board.specs.Machine.{Machine, start};
 ghost use Rattle.psx_board.specs.View.{view_of};
 ghost use Rattle.psx_board.specs.Turn.{turn, asked, answered, after_read, after_write, by_move};
-ghost use Rattle.psx_board.specs.Stands.{Stands, Turned};
+ghost use Rattle.psx_board.specs.Stands.{Stands, Turned, WentOn};
 ghost use Rattle.psx_ports.specs.History;
 ghost use Rattle.psx_ports.specs.History.{written};
 ghost use Rattle.psx_ports.specs.Stands.{StandsFor};
@@ -180,6 +180,7 @@ impl Board {
         requires room { (view_of self.old).taken < 2 ^ 64 - 1 }
         requires port { IsPortDid did }
         ensures counted { (view_of self.new).taken ≤ (view_of self.old).taken + 1 }
+        ensures runs_on { WentOn result → (view_of self.new).stopped ≡ None }
         ensures turned { (m : Machine) (move : Move) → StandsFor (view_of self.old).ports m.history → (view_of self.old).taken ≡ m.taken → Does m.core move did (view_of self.old).core → Turned m (by_move m move) result (view_of self.new) }
     {
         match did {
@@ -198,6 +199,7 @@ impl Board {
         requires room { (view_of self.old).taken < 2 ^ 64 - 1 }
         requires port { IsTrue (port at) }
         ensures counted { (view_of self.new).taken ≤ (view_of self.old).taken + 1 }
+        ensures runs_on { WentOn result → (view_of self.new).stopped ≡ None }
         ensures turned { (m : Machine) → StandsFor (view_of self.old).ports m.history → (view_of self.old).taken ≡ m.taken → (view_of self.old).core ≡ m.core →
             Turned m (after_write m at value (written m.history at value)) result (view_of self.new) }
     {
@@ -240,6 +242,7 @@ impl Board {
         requires room { (view_of self.old).taken < 2 ^ 64 - 1 }
         ensures turns { (m : Machine) → Stands (view_of self.old) m → Turned m (turn m) result (view_of self.new) }
         ensures counted { (view_of self.new).taken ≤ (view_of self.old).taken + 1 }
+        ensures runs_on { WentOn result → (view_of self.new).stopped ≡ None }
     {
         let line = self.ports.line();
         let value = self.ask(line);

@@ -1,7 +1,6 @@
 -- A run, a step more.
-use Rattle.std.proofs.Common.{◌≡◌, ℕ, zero, suc, ◌+◌, ◌-◌, ◌<◌, ◌≤◌, Bool, List, [], ◌∷◌, ◌++◌, Option, Some, None, refl, sym, ap, subst, ◌∙◌, append-nil, arith}
-use Rattle.std.specs.Prelude.{◌⊎◌}
-use Rattle.std.proofs.Common.{inl, inr}
+use Rattle.std.proofs.Common.{◌≡◌, ℕ, suc, ◌+◌, ◌-◌, ◌<◌, ◌≤◌, Bool, List, [], ◌∷◌, ◌++◌, Option, refl, sym, ap, subst, ◌∙◌, arith}
+use Rattle.std.proofs.Common.{inl}
 use Rattle.psx_base.specs.declared.host.Out.{Out}
 use Rattle.psx_base.specs.declared.host.Out.TheVariants.{Tty, Trace, Ram, Report}
 use Rattle.psx_base.specs.declared.stop.Stop.{Stop}
@@ -13,11 +12,10 @@ use Rattle.psx_cpu.specs.declared.step.Did.TheVariants.{Plain, PortRead, PortWri
 use Rattle.psx_ports.specs.History as history
 use Rattle.psx_board.specs.Machine.{Machine}
 use Rattle.psx_board.specs.Turn.{Turn, On, Ends, turn}
-use Rattle.psx_board.specs.Run.{Outcome, run, behind, ended, then_run}
+use Rattle.psx_board.specs.Run.{Outcome, run, ended, then_run}
 use Rattle.psx_board.specs.Stands.{View, Stands, Turned, WentOn, told_items, begun, console_bytes}
-use Rattle.psxk_run.specs.Sent.{Grew, GrewFront}
 use Rattle.psxk_run.specs.Texts.{trace_text, BreaksOff}
-use Rattle.psxk_run.specs.Pieces.{Tells, Stream, Breaks, BreaksOne, AtTty, AtTrace}
+use Rattle.psxk_run.specs.Pieces.{Tells, Stream, BreaksOne, AtTty, AtTrace}
 use Rattle.psxk_run.specs.Underway.{Underway, Reached, Stopped}
 use Rattle.psxk_run.proofs.Tellings.{trace_text-append, trace_text-one}
 use Rattle.psxk_run.proofs.Streams.{stream-start, stream-puts, stream-front, front-none, front-sends, front-more}
@@ -55,7 +53,7 @@ on-step whole n m (Ends last stop) did new b0 before mid now tty trace tty' trac
 on-step whole n m (On next items bytes) did new b0 before mid now tty trace tty' trace' h went e u t =
     let rest = run n next in
     let split : trace_text (items ++ rest.items) ≡ trace_text (told_items m.began (history.line m.history) m.taken did new.core) ++ trace_text rest.items =
-        trace_text-append items rest.items ∙ ap (λ (xs : List Item). trace_text xs ++ trace_text rest.items) h.items in
+    trace_text-append items rest.items ∙ ap (λ (xs : List Item). trace_text xs ++ trace_text rest.items) h.items in
     let bytes_are : bytes ++ rest.tty ≡ console_bytes did ++ rest.tty = ap (λ (xs : List ℕ). xs ++ rest.tty) h.tty in
     record {
       machine = next;
@@ -114,7 +112,7 @@ pub reached-on : (whole : Outcome) (n i : ℕ) (old new : View) (did : Did) (b0 
 reached-on whole n i old new did b0 line count before mid now tty trace tty' trace' h r turned went l c t =
     let m = r.machine in
     let told : told_items b0 line count did new.core ≡ told_items m.began (history.line m.history) m.taken did new.core =
-        (λ j. told_items (sym r.began j) (l j) ((c ∙ r.stands.taken) j) did new.core) in
+    (λ j. told_items (sym r.began j) (l j) ((c ∙ r.stands.taken) j) did new.core) in
     on-step whole (n - (i + 1)) m (turn m) did new b0 before mid now tty trace tty' trace' turned went r.began
     (from-run whole _ _ before mid tty trace (run-more n i m h) r.underway)
     (subst (λ (xs : List Item). Tells mid now tty trace (console_bytes did) xs tty' trace') told t)

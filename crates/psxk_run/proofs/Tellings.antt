@@ -1,10 +1,9 @@
 -- What is told of a step, from what was put behind a piece.
-use Rattle.std.proofs.Common.{◌≡◌, ◌≢◌, ℕ, Bool, true, false, List, [], ◌∷◌, ◌++◌, Option, Some, None, refl, sym, ap, ◌∙◌, append-nil, append_assoc}
+use Rattle.std.proofs.Common.{◌≡◌, ℕ, List, [], ◌∷◌, ◌++◌, Option, Some, None, refl, sym, ap, ◌∙◌, append-nil, append_assoc}
 use Rattle.psx_base.specs.declared.host.Out.{Out}
 use Rattle.psx_base.specs.declared.host.Out.TheVariants.{Tty, Trace, Ram, Report}
 use Rattle.psx_base.specs.Items.{Item}
 use Rattle.psx_trace.specs.Line.{line}
-use Rattle.psx_board.specs.Turn.{shown}
 use Rattle.psxk_run.specs.Sent.{Grew, OnlyOn}
 use Rattle.psxk_run.specs.Texts.{trace_text}
 use Rattle.psxk_run.specs.Pieces.{Puts, Tells}

@@ -1,10 +1,10 @@
 -- A text that is sent in pieces: what was sent, the piece that waits, and the rest.
-use Rattle.std.specs.Prelude.{◌≡◌, ℕ, List, [], ◌++◌, Option, IfSome}
+use Rattle.std.specs.Prelude.{◌≡◌, ℕ, List, ◌++◌, Option}
 use Rattle.psx_base.specs.declared.host.Out.{Out}
 use Rattle.psx_base.specs.declared.host.Out.TheVariants.{Tty, Trace, Ram, Report}
 use Rattle.psx_base.specs.Host.{SendsFront}
 use Rattle.psx_base.specs.Items.{Item}
-use Rattle.psxk_run.specs.Sent.{Grew, OnlyOn}
+use Rattle.psxk_run.specs.Sent.{Grew, GrewFront, OnlyOn}
 use Rattle.psxk_run.specs.Texts.{trace_text}
 
 -- bytes were put behind a piece, of which a front may have been sent
@@ -35,3 +35,17 @@ pub record Stream (before now : Option (List ℕ)) (piece rest whole : List ℕ)
   pub sent : List ℕ
   pub grew : Grew before now sent
   pub all : (sent ++ piece) ++ rest ≡ whole
+
+-- the two pieces were sent, the trace's with its last line
+pub record Ends (before now : Out → Option (List ℕ)) (tty_piece trace_piece text : List ℕ) : Type 0 where
+  pub tty : Grew (before Tty) (now Tty) tty_piece
+  pub trace : Grew (before Trace) (now Trace) (trace_piece ++ text)
+  pub ram : now Ram ≡ before Ram
+  pub report : now Report ≡ before Report
+
+-- a front of each was
+pub record EndsFront (before now : Out → Option (List ℕ)) (tty_piece trace_piece text : List ℕ) : Type 0 where
+  pub tty : GrewFront (before Tty) (now Tty) tty_piece
+  pub trace : GrewFront (before Trace) (now Trace) (trace_piece ++ text)
+  pub ram : now Ram ≡ before Ram
+  pub report : now Report ≡ before Report

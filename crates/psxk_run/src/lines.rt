@@ -7,14 +7,16 @@ ghost use Rattle.psx_cpu.specs.Views.{core_of};
 ghost use Rattle.psx_board.specs.Turn.{shown, write_shown};
 ghost use Rattle.psx_board.specs.Stands.{told_items, begun, console_bytes};
 ghost use Rattle.psxk_run.specs.Sent.{GoesOn};
-ghost use Rattle.psxk_run.specs.Pieces.{Tells, BreaksOne};
-ghost use Rattle.std.specs.Prelude.{[], ◌∷◌, if◌then◌else◌, nat_eq, ◌%◌};
-ghost use Rattle.psx_base.specs.Items.{W};
+ghost use Rattle.psxk_run.specs.Pieces.{Tells, BreaksOne, Ends, EndsFront};
+ghost use Rattle.psx_trace.specs.Line;
+ghost use Rattle.std.specs.Prelude.{[], ◌∷◌, false, if◌then◌else◌, nat_eq, ◌%◌};
+ghost use Rattle.psx_base.specs.Items.{S};
 
 use crate::items::{entry, returned};
-use crate::pieces::{Piece, put};
+use crate::pieces::{Piece, flush, put};
+use arrayvec::ArrayVec;
 use psx_base::ports::{CONSOLE_DATA, CONSOLE_STATUS, HALT};
-use psx_base::{Host, Out, SendError};
+use psx_base::{Host, Out, SendError, Stop};
 use psx_cpu::{Cpu, Did};
 use psx_trace::{Item, line_of};
 
@@ -27,6 +29,19 @@ pub(crate) struct Lines {
 }
 
 impl Lines {
+    // Nothing waits.
+    pub(crate) fn new() -> Lines
+        ensures tty { result.tty.items ≡ [] }
+        ensures trace { result.trace.items ≡ [] }
+        ensures began { result.began ≡ false }
+    {
+        Lines {
+            tty: ArrayVec::new(),
+            trace: ArrayVec::new(),
+            began: false,
+        }
+    }
+
     // Writes the line of an item.
     pub(crate) fn line<H: Host>(&mut self, host: &mut H, item: Item) -> Result<(), SendError>
         ensures tells { OnOk result (Tells (H.sent host.old) (H.sent host.new) self.old.tty.items self.old.trace.items [] (item_of item ∷ []) self.new.tty.items self.new.trace.items) }
@@ -66,8 +81,38 @@ impl Lines {
         Ok(())
     }
 
+    // Writes the last line of the trace, and sends what waits.
+    pub(crate) fn end<H: Host>(
+        &mut self,
+        host: &mut H,
+        count: u64,
+        stop: Stop,
+    ) -> Result<(), SendError>
+        ensures ends { OnOk result (Ends (H.sent host.old) (H.sent host.new) self.old.tty.items self.old.trace.items (Line.line (S count stop))) }
+        ensures fronts { OnErr result (EndsFront (H.sent host.old) (H.sent host.new) self.old.tty.items self.old.trace.items (Line.line (S count stop))) }
+        ensures failed { OnErr result (Rose (H.send_faults host.old) (H.send_faults host.new)) }
+        ensures on { GoesOn H.holds H.load_faults H.send_faults host.old host.new }
+    {
+        if let Err(error) = self.line(host, Item::S { count, stop }) {
+            return Err(error);
+        }
+        if let Err(error) = flush(host, Out::Tty, &mut self.tty) {
+            return Err(error);
+        }
+        if let Err(error) = flush(host, Out::Trace, &mut self.trace) {
+            return Err(error);
+        }
+        Ok(())
+    }
+
     // Tells a write to a port.
-    fn write<H: Host>(&mut self, host: &mut H, count: u64, at: u32, value: u32) -> Result<(), SendError>
+    fn write<H: Host>(
+        &mut self,
+        host: &mut H,
+        count: u64,
+        at: u32,
+        value: u32,
+    ) -> Result<(), SendError>
         ensures tells { OnOk result (Tells (H.sent host.old) (H.sent host.new) self.old.tty.items self.old.trace.items
             (if nat_eq at CONSOLE_DATA then (value % 2 ^ 8) ∷ [] else []) (write_shown self.old.began count at value) self.new.tty.items self.new.trace.items) }
         ensures began { self.new.began ≡ self.old.began }
@@ -85,7 +130,14 @@ impl Lines {
     }
 
     // Tells what a step did, from what the processor holds after it; count is that before it.
-    pub(crate) fn tell<H: Host>(&mut self, host: &mut H, count: u64, line: bool, did: Did, cpu: &Cpu) -> Result<(), SendError>
+    pub(crate) fn tell<H: Host>(
+        &mut self,
+        host: &mut H,
+        count: u64,
+        line: bool,
+        did: Did,
+        cpu: &Cpu,
+    ) -> Result<(), SendError>
         requires { count + 1 < 2 ^ 64 }
         ensures tells { (bytes : Memory) → OnOk result (Tells (H.sent host.old) (H.sent host.new) self.old.tty.items self.old.trace.items
             (console_bytes did) (told_items self.old.began line count did (core_of cpu.now bytes)) self.new.tty.items self.new.trace.items) }

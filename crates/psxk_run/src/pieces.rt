@@ -36,7 +36,12 @@ fn append(piece: &mut Piece, bytes: &[u8])
 }
 
 // Puts bytes behind a piece, which is sent first where it has no room for them.
-pub(crate) fn put<H: Host>(host: &mut H, out: Out, piece: &mut Piece, bytes: &[u8]) -> Result<(), SendError>
+pub(crate) fn put<H: Host>(
+    host: &mut H,
+    out: Out,
+    piece: &mut Piece,
+    bytes: &[u8],
+) -> Result<(), SendError>
     requires { length bytes.now ≤ 4096 }
     ensures puts { OnOk result (Puts (H.sent host.old out) (H.sent host.new out) piece.old.items bytes.now piece.new.items) }
     ensures others { OnlyOn out (H.sent host.old) (H.sent host.new) }

@@ -15,7 +15,12 @@ use psx_board::Board;
 use psx_cpu::Did;
 
 // Steps a board, and tells its host what it does. What isn't sent yet waits in the lines.
-pub(crate) fn steps<H: Host>(board: &mut Board, budget: u32, host: &mut H, lines: &mut Lines) -> Result<Stop, SendError>
+pub(crate) fn steps<H: Host>(
+    board: &mut Board,
+    budget: u32,
+    host: &mut H,
+    lines: &mut Lines,
+) -> Result<Stop, SendError>
     requires fresh { (view_of board.old).taken ≡ 0 }
     requires running { (view_of board.old).stopped ≡ None }
     requires tty { lines.old.tty.items ≡ [] }
@@ -33,7 +38,11 @@ pub(crate) fn steps<H: Host>(board: &mut Board, budget: u32, host: &mut H, lines
         let did = board.step();
         match did {
             Did::Stopped(stop) => return Ok(stop),
-            _ => lines.tell(host, count, line, did, board.cpu())?,
+            _ => {
+                if let Err(error) = lines.tell(host, count, line, did, board.cpu()) {
+                    return Err(error);
+                }
+            }
         }
     }
     Ok(Stop::Budget)

@@ -20,5 +20,5 @@ returns-clause-turns c m s =
     let by_bus : Does k (step k (bus_of m)) c.step-did.result left = subst (λ (u : Bus). Does k (step k u) c.step-did.result left) bus c.step-did.ensures.does in
     let by_core : Does k (step m.core (bus_of m)) c.step-did.result left = subst (λ (x : Core). Does k (step x (bus_of m)) c.step-did.result left) same by_bus in
     let does : Does (after_read m (asked m)).core (step m.core (bus_of m)) c.step-did.result left =
-        subst (λ (x : Core). Does x (step m.core (bus_of m)) c.step-did.result left) after.core by_core in
+    subst (λ (x : Core). Does x (step m.core (bus_of m)) c.step-did.result left) after.core by_core in
     turned-read m (asked m) _ _ _ (c.finish.ensures.turned (after_read m (asked m)) (step m.core (bus_of m)) after.ports after.taken does)
