@@ -126,7 +126,8 @@ impl Cpu {
 
     /// The cause of the last exception. Bit 10 is 0 here: it is the interrupt line at each step.
     pub fn cause(&self) -> u32
-        ensures { result ≡ self.now.cop0.cause }
+        ensures value { result ≡ self.now.cop0.cause }
+        ensures small { result < 2 ^ 31 + 2 ^ 7 }
     {
         self.cause
     }

@@ -1,2 +1,4 @@
 pub mod Sent
 pub mod Texts
+pub mod Pieces
+pub mod Underway

@@ -2,6 +2,10 @@
 //! A run's texts are those of the board's run of the image; the program `psxk` gives it a host over real files.
 #![tactic(auto)]
 
+mod items;
+mod lines;
+mod pieces;
 pub mod run;
+mod steps;
 
 pub use run::{RunEnd, run_on};
