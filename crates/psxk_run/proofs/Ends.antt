@@ -62,12 +62,15 @@ rose_later f0 f1 f2 up rose = omega (arith, up, rose)
 
 -- a run whose texts were sent, and whose stop was then reported
 pub runs_done : (old mid new : Out → Option (List ℕ)) (f0 f1 f2 : ℕ) (o : Outcome) (stop : Stop) (result : ℕ) → stop ≡ o.stop → Delivers old mid o → OnlyReports mid new → f0 ≤ f1 → Says mid new f1 f2 (report_of stop) (status_of stop) result → RunsBoard old new f0 f2 o result
-runs_done old mid new f0 f1 f2 o stop result is texts only up (inl said) = inl (said.0 ∙ ap status_of is, record {
-  tty = rw (only Tty (λ e. cc)) texts.tty;
-  trace = rw (only Trace (λ e. cc)) texts.trace;
-  ram = rw (only Ram (λ e. cc)) texts.ram;
-  report = rw (← texts.report, ← is) said.1;
-})
+runs_done old mid new f0 f1 f2 o stop result is texts only up (inl said) = inl (
+  said.0 ∙ ap status_of is,
+  record {
+    tty = rw (only Tty (λ e. cc)) texts.tty;
+    trace = rw (only Trace (λ e. cc)) texts.trace;
+    ram = rw (only Ram (λ e. cc)) texts.ram;
+    report = rw (← texts.report, ← is) said.1;
+  },
+)
 runs_done old mid new f0 f1 f2 o stop result is texts only up (inr failed) = inr (failed.0, rose_later f0 f1 f2 up failed.1)
 
 -- want of memory, reported
@@ -139,3 +142,8 @@ refused holds sent old mid new name loaded fault fb fn result front read same (i
 }
 refused holds sent old mid new name loaded fault fb fn result front read same (inr (inl memory)) e = absurd (omega (arith, memory.0))
 refused holds sent old mid new name loaded fault fb fn result front read same (inr (inr failed)) e = absurd (omega (arith, failed.0))
+
+-- a report behind a load
+pub reported : (old mid now : Out → Option (List ℕ)) (fb fn : ℕ) (text : List ℕ) (status result : ℕ) → status ≢ 6 → ((o : Out) → mid o ≡ old o) → Says mid now fb fn text status result → result ≡ status → Grew (old Report) (now Report) text
+reported old mid now fb fn text status result other same (inl said) e = rw (← same Report) said.1
+reported old mid now fb fn text status result other same (inr failed) e = absurd (other (sym e ∙ failed.0))
