@@ -127,7 +127,8 @@ fault_not_done before now fb fn fault result (inr (inl memory)) (inr e) = absurd
 fault_not_done before now fb fn fault result (inr (inr failed)) (inl e) = absurd (omega (arith, failed.0))
 fault_not_done before now fb fn fault result (inr (inr failed)) (inr e) = absurd (omega (arith, failed.0))
 
-read_fault : (loaded : List ℕ) (fault : ExeError) → fault ≢ Memory → (fault ≡ Memory) ⊎ (read_of loaded ≡ Err fault) → read_of loaded ≡ Err fault
+-- what is no want of memory is the fault of the program
+pub read_fault : (loaded : List ℕ) (fault : ExeError) → fault ≢ Memory → (fault ≡ Memory) ⊎ (read_of loaded ≡ Err fault) → read_of loaded ≡ Err fault
 read_fault loaded fault real (inl e) = absurd (real e)
 read_fault loaded fault real (inr read) = read
 

@@ -1,2 +1,3 @@
 pub mod Grew
 pub mod Ends
+pub mod Fronts

@@ -5,3 +5,4 @@ pub mod Told
 pub mod Words
 pub mod Reports
 pub mod Top
+pub mod InPart

@@ -11,9 +11,10 @@ ghost use Rattle.psx_exe.specs.Reading.{IsReadable};
 ghost use Rattle.kern_image.specs.Rom;
 ghost use Rattle.psxk_run.specs.Command.{command_of};
 ghost use Rattle.psxk_run.specs.Reports.{exe_line, usage_line, read_line, memory_line};
-ghost use Rattle.psxk_run.specs.Sent.{Grew, GoesOn, OnlyReports, Says};
+ghost use Rattle.psxk_run.specs.Sent.{Grew, GrewFront, GoesOn, OnlyReports, Says};
 ghost use Rattle.psxk_run.specs.Texts.{report_of, status_of};
 ghost use Rattle.psxk_run.specs.Top.{plain_sizes, Ran, IsRefused, OnRefused, IsStatus, RunsBoard, RunsProgram, SaysFault};
+ghost use Rattle.psxk_run.specs.InPart.{ReportsFront, HasFronts, SentInPart, WordsInPart, FaultFront};
 ghost use Rattle.psxk_run.specs.Words.{words_of, IfCommand};
 
 use crate::command::command;
@@ -36,6 +37,7 @@ const MEMORY: &[u8] = b"psxk: memory\n";
 // Reports a text, and answers the status, or 6 where the sending failed.
 fn say<H: Host>(host: &mut H, text: &[u8], status: u8) -> u8
     ensures says { Says (H.sent host.old) (H.sent host.new) (H.send_faults host.old) (H.send_faults host.new) text.now status result }
+    ensures front { GrewFront (H.sent host.old Out.Report) (H.sent host.new Out.Report) text.now }
     ensures only { OnlyReports (H.sent host.old) (H.sent host.new) }
     ensures on { GoesOn H.holds H.load_faults H.send_faults host.old host.new }
 {
@@ -48,6 +50,7 @@ fn say<H: Host>(host: &mut H, text: &[u8], status: u8) -> u8
 // Sends the line of a file that wasn't read.
 fn send_read<H: Host>(host: &mut H, name: &str) -> Result<(), SendError>
     ensures all { OnOk result (Grew (H.sent host.old Out.Report) (H.sent host.new Out.Report) (read_line name.now)) }
+    ensures front { GrewFront (H.sent host.old Out.Report) (H.sent host.new Out.Report) (read_line name.now) }
     ensures failed { OnErr result (Rose (H.send_faults host.old) (H.send_faults host.new)) }
     ensures only { OnlyReports (H.sent host.old) (H.sent host.new) }
     ensures on { GoesOn H.holds H.load_faults H.send_faults host.old host.new }
@@ -61,6 +64,7 @@ fn send_read<H: Host>(host: &mut H, name: &str) -> Result<(), SendError>
 // Reports that a file was not read.
 fn say_read<H: Host>(host: &mut H, name: &str) -> u8
     ensures says { Says (H.sent host.old) (H.sent host.new) (H.send_faults host.old) (H.send_faults host.new) (read_line name.now) 5 result }
+    ensures front { GrewFront (H.sent host.old Out.Report) (H.sent host.new Out.Report) (read_line name.now) }
     ensures only { OnlyReports (H.sent host.old) (H.sent host.new) }
     ensures on { GoesOn H.holds H.load_faults H.send_faults host.old host.new }
 {
@@ -93,6 +97,7 @@ fn status_of(stop: Stop) -> u8
 // Reports a stop, where it is one that is reported.
 fn say_stop<H: Host>(host: &mut H, stop: Stop) -> u8
     ensures says { Says (H.sent host.old) (H.sent host.new) (H.send_faults host.old) (H.send_faults host.new) (report_of stop) (status_of stop) result }
+    ensures front { GrewFront (H.sent host.old Out.Report) (H.sent host.new Out.Report) (report_of stop) }
     ensures only { OnlyReports (H.sent host.old) (H.sent host.new) }
     ensures on { GoesOn H.holds H.load_faults H.send_faults host.old host.new }
 {
@@ -122,6 +127,7 @@ fn is_memory(fault: ExeError) -> bool
 // Reports why a file gave no program.
 fn say_fault<H: Host>(host: &mut H, fault: ExeError) -> u8
     ensures says { SaysFault (H.sent host.old) (H.sent host.new) (H.send_faults host.old) (H.send_faults host.new) fault result }
+    ensures front { FaultFront (H.sent host.old) (H.sent host.new) fault }
     ensures only { OnlyReports (H.sent host.old) (H.sent host.new) }
     ensures on { GoesOn H.holds H.load_faults H.send_faults host.old host.new }
 {
@@ -138,6 +144,7 @@ fn run_board<H: Host>(host: &mut H, board: &mut Board, budget: u32) -> u8
     requires running { (view_of board.old).stopped ≡ None }
     requires budget { 0 < budget }
     ensures ran { (m : Machine) → Stands (view_of board.old) m → RunsBoard (H.sent host.old) (H.sent host.new) (H.send_faults host.old) (H.send_faults host.new) (Run.run budget m) result }
+    ensures fronts { (m : Machine) → Stands (view_of board.old) m → HasFronts (H.sent host.old) (H.sent host.new) (Run.run budget m) }
     ensures on { GoesOn H.holds H.load_faults H.send_faults host.old host.new }
 {
     match run_on(board, budget, host) {
@@ -151,6 +158,7 @@ fn run_program<H: Host>(alloc: Global, host: &mut H, exe: &Exe, budget: u32) -> 
     requires readable { IsReadable exe.now }
     requires budget { 0 < budget }
     ensures ran { RunsProgram (H.sent host.old) (H.sent host.new) (H.send_faults host.old) (H.send_faults host.new) (board_run Rom.rom exe.now plain_sizes budget) result }
+    ensures fronts { HasFronts (H.sent host.old) (H.sent host.new) (board_run Rom.rom exe.now plain_sizes budget) ⊎ ReportsFront (H.sent host.old) (H.sent host.new) memory_line }
     ensures on { GoesOn H.holds H.load_faults H.send_faults host.old host.new }
 {
     let Ok(image) = build(alloc) else {
@@ -178,6 +186,7 @@ fn run_file<H: Host>(alloc: Global, host: &mut H, name: &str, budget: u32) -> u8
     ensures quiet { (result ≡ 3) ⊎ ((result ≡ 5) ⊎ (result ≡ 7)) → OnlyReports (H.sent host.old) (H.sent host.new) }
     ensures report_read { result ≡ 5 → Grew (H.sent host.old Out.Report) (H.sent host.new Out.Report) (read_line name.now) }
     ensures report_memory { result ≡ 7 → Grew (H.sent host.old Out.Report) (H.sent host.new Out.Report) memory_line }
+    ensures fronts { SentInPart H.holds H.sent host.old host.new (record { name = name.now; budget = budget }) }
     ensures on { GoesOn H.holds H.load_faults H.send_faults host.old host.new }
 {
     match host.load(alloc, name, LIMIT) {
@@ -213,6 +222,9 @@ pub fn psxk<H: Host>(alloc: Global, words: &[&str], host: &mut H) -> u8
     ensures report_usage { result ≡ 2 → Grew (H.sent host.old Out.Report) (H.sent host.new Out.Report) usage_line }
     ensures report_read { result ≡ 5 → IfCommand words.now (λ c. Grew (H.sent host.old Out.Report) (H.sent host.new Out.Report) (read_line c.name)) }
     ensures report_memory { result ≡ 7 → Grew (H.sent host.old Out.Report) (H.sent host.new Out.Report) memory_line }
+
+    // In every case each output has a front of its text more, and Ram a byte only where Tty and Trace are whole.
+    ensures fronts { WordsInPart H.holds H.sent host.old host.new (command_of (words_of words.now)) }
     ensures on { GoesOn H.holds H.load_faults H.send_faults host.old host.new }
 {
     match command(words) {
