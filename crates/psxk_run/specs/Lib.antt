@@ -2,3 +2,9 @@ pub mod Sent
 pub mod Texts
 pub mod Pieces
 pub mod Underway
+pub mod Command
+pub mod Told
+pub mod Words
+pub mod Reports
+pub mod Top
+pub mod InPart

@@ -2,10 +2,14 @@
 //! A run's texts are those of the board's run of the image; the program `psxk` gives it a host over real files.
 #![tactic(auto)]
 
+pub mod command;
 mod items;
 mod lines;
 mod pieces;
+mod report;
 pub mod run;
 mod steps;
+pub mod top;
 
 pub use run::{RunEnd, run_on};
+pub use top::psxk;

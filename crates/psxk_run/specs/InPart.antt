@@ -1,0 +1,62 @@
+-- What a top call has sent in every case, also where a sending failed: on each output a front of its text. A whole text is a front of itself.
+use Rattle.std.specs.Prelude.{◌≡◌, ◌⊎◌, ℕ, List, Option, Some, None, Ok, Err}
+use Rattle.psx_base.specs.declared.host.Out.{Out}
+use Rattle.psx_base.specs.declared.host.Out.TheVariants.{Tty, Trace, Ram, Report}
+use Rattle.psx_base.specs.Host.{IsFront}
+use Rattle.psx_exe.specs.declared.exe.Exe.{Exe}
+use Rattle.psx_exe.specs.declared.fault.ExeError.{ExeError}
+use Rattle.psx_exe.specs.declared.fault.ExeError.TheVariants.{Memory}
+use Rattle.psx_exe.specs.Reading.{read_of}
+use Rattle.psx_board.specs.Run.{Outcome, board_run}
+use Rattle.kern_image.specs.Rom.{rom}
+use Rattle.psxk_run.specs.Command.{Command}
+use Rattle.psxk_run.specs.Sent.{Grew, GrewFront, OnlyReports}
+use Rattle.psxk_run.specs.Texts.{trace_text, ram_text, report_of}
+use Rattle.psxk_run.specs.Reports.{exe_line, memory_line, read_line, usage_line}
+use Rattle.psxk_run.specs.Top.{plain_sizes}
+
+-- of one line a front was reported, and nothing else was sent
+pub record ReportsFront (before now : Out → Option (List ℕ)) (line : List ℕ) : Type 0 where
+  pub only : OnlyReports before now
+  pub report : GrewFront (before Report) (now Report) line
+
+-- of each text of a run a front was sent, and of the memory a byte only where Tty and Trace are whole
+pub record HasFronts (before now : Out → Option (List ℕ)) (o : Outcome) : Type 0 where
+  pub tty : GrewFront (before Tty) (now Tty) o.tty
+  pub trace : GrewFront (before Trace) (now Trace) (trace_text o.items)
+  pub ram : GrewFront (before Ram) (now Ram) (ram_text o.last.core.bytes)
+  pub late : (now Ram ≡ before Ram) ⊎ (Grew (before Tty) (now Tty) o.tty × Grew (before Trace) (now Trace) (trace_text o.items))
+  pub report : GrewFront (before Report) (now Report) (report_of o.stop)
+
+-- a program was loaded and accepted, and of its run's texts fronts were sent, or of the line of want of memory
+pub record RanInPart {H : Type 0} (holds : H → List ℕ → Option (List ℕ)) (sent : H → Out → Option (List ℕ)) (old new : H) (c : Command) : Type 0 where
+  pub loaded : List ℕ
+  pub is_held : IsFront 8388609 (holds old c.name) loaded
+  pub program : Exe
+  pub accepted : read_of loaded ≡ Ok program
+  pub texts : HasFronts (sent old) (sent new) (board_run rom program plain_sizes c.budget) ⊎ ReportsFront (sent old) (sent new) memory_line
+
+-- a program was loaded that has a fault, and of its line a front was reported
+pub record RefusedInPart {H : Type 0} (holds : H → List ℕ → Option (List ℕ)) (sent : H → Out → Option (List ℕ)) (old new : H) (c : Command) : Type 0 where
+  pub loaded : List ℕ
+  pub is_held : IsFront 8388609 (holds old c.name) loaded
+  pub fault : ExeError
+  pub refused : read_of loaded ≡ Err fault
+  pub report : ReportsFront (sent old) (sent new) (exe_line fault)
+
+-- what a command has sent
+pub data SentInPart {H : Type 0} (holds : H → List ℕ → Option (List ℕ)) (sent : H → Out → Option (List ℕ)) (old new : H) (c : Command) : Type 0 where
+  InRun : RanInPart holds sent old new c → SentInPart holds sent old new c
+  InFault : RefusedInPart holds sent old new c → SentInPart holds sent old new c
+  InRead : ReportsFront (sent old) (sent new) (read_line c.name) → SentInPart holds sent old new c
+  InMemory : ReportsFront (sent old) (sent new) memory_line → SentInPart holds sent old new c
+
+-- what was sent for the words
+abbrev pub WordsInPart : {H : Type 0} → (H → List ℕ → Option (List ℕ)) → (H → Out → Option (List ℕ)) → H → H → Option Command → Type 0
+WordsInPart holds sent old new None = ReportsFront (sent old) (sent new) usage_line
+WordsInPart holds sent old new (Some c) = SentInPart holds sent old new c
+
+-- a front of a fault's line was reported, or where memory was wanting, of that line
+abbrev pub FaultFront : (Out → Option (List ℕ)) → (Out → Option (List ℕ)) → ExeError → Type 0
+FaultFront before now fault =
+    ((fault ≡ Memory) × GrewFront (before Report) (now Report) memory_line) ⊎ ((fault ≡ Memory → ⊥) × GrewFront (before Report) (now Report) (exe_line fault))

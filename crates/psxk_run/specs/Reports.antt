@@ -1,0 +1,36 @@
+-- The lines that are reported.
+use Rattle.std.specs.Prelude.{ℕ, List, ◌++◌, codes, decimal}
+use Rattle.psx_base.specs.declared.stop.Stop.{Stop}
+use Rattle.psx_exe.specs.declared.fault.ExeError.{ExeError}
+use Rattle.psx_exe.specs.declared.fault.ExeError.TheVariants.{TooLong, Short, NoMark, TextRange, Truncated, FillRange, BadPc, Memory}
+use Rattle.psx_trace.specs.Digits.{field}
+use Rattle.psx_trace.specs.StopText.{stop_text}
+
+-- what makes a file no program, by its name and its field: an address in eight digits, a limit or a need in decimal
+unfoldable pub exe_error_text : ExeError → List ℕ
+exe_error_text (TooLong limit) = codes "TooLong " ++ decimal limit
+exe_error_text Short = codes "Short"
+exe_error_text NoMark = codes "NoMark"
+exe_error_text (TextRange at) = codes "TextRange" ++ field at
+exe_error_text (Truncated need) = codes "Truncated " ++ decimal need
+exe_error_text (FillRange at) = codes "FillRange" ++ field at
+exe_error_text (BadPc pc) = codes "BadPc" ++ field pc
+exe_error_text Memory = codes "Memory"
+
+abbrev pub exe_line : ExeError → List ℕ
+exe_line error = codes "psxk: exe: " ++ (exe_error_text error ++ codes "\n")
+
+abbrev pub stop_line : Stop → List ℕ
+stop_line stop = codes "psxk: stopped " ++ (stop_text stop ++ codes "\n")
+
+-- the line of words that are in no command's form
+abbrev pub usage_line : List ℕ
+usage_line = codes "psxk: usage: run EXE SCHED BUDGET [CNF], image, asm TEXT, dis EXE, gen N\n"
+
+-- the line of a file that wasn't read
+abbrev pub read_line : List ℕ → List ℕ
+read_line name = codes "psxk: read " ++ (name ++ codes "\n")
+
+-- the line of want of memory
+abbrev pub memory_line : List ℕ
+memory_line = codes "psxk: memory\n"

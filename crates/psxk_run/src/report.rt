@@ -1,0 +1,140 @@
+//! The lines that are reported. They take no memory.
+ghost use Rattle.std.specs.Prelude.{◌≡◌, ◌≤◌, ◌<◌, ◌+◌, ◌^◌, ℕ, [], ◌∷◌, ◌++◌, length, decimal, codes};
+ghost use Rattle.arrayvec.specs.ArrayVec.{array_vec_len};
+ghost use Rattle.psx_trace.specs.Digits.{hex_digit, hex8, field};
+ghost use Rattle.psx_trace.specs.StopText.{stop_text};
+ghost use Rattle.psxk_run.specs.Reports.{exe_error_text, exe_line, stop_line};
+
+use arrayvec::ArrayVec;
+use itoa::Buffer;
+use psx_base::Stop;
+use psx_exe::ExeError;
+use psx_trace::stop_text;
+
+/// The bytes of a line.
+pub type ReportLine = ArrayVec<u8, 80>;
+
+// Appends bytes for which there is room.
+fn put(line: &mut ReportLine, bytes: &[u8])
+    requires { array_vec_len line.old + length bytes.now ≤ 80 }
+    ensures items { line.new.items ≡ line.old.items ++ bytes.now }
+    ensures len { array_vec_len line.new ≡ array_vec_len line.old + length bytes.now }
+{
+    if line.try_extend_from_slice(bytes).is_err() {
+        unreachable!();
+    }
+}
+
+// A digit below 16, with capitals.
+fn digit_of(digit: u32) -> u8
+    requires { digit < 16 }
+    ensures { result ≡ hex_digit digit }
+{
+    if digit < 10 {
+        b'0' + digit as u8
+    } else {
+        b'A' - 10 + digit as u8
+    }
+}
+
+// Appends a space and a word in eight hexadecimal digits.
+#[tactic(auto, unfolding(psx_trace::specs::Digits::hex8))]
+fn put_field(line: &mut ReportLine, word: u32)
+    requires { array_vec_len line.old + 9 ≤ 80 }
+    ensures items { line.new.items ≡ line.old.items ++ field word }
+    ensures len { array_vec_len line.new ≡ array_vec_len line.old + 9 }
+{
+    put(
+        line,
+        &[
+            b' ',
+            digit_of(word / 0x1000_0000),
+            digit_of(word / 0x100_0000 % 16),
+            digit_of(word / 0x10_0000 % 16),
+            digit_of(word / 0x1_0000 % 16),
+            digit_of(word / 0x1000 % 16),
+            digit_of(word / 0x100 % 16),
+            digit_of(word / 0x10 % 16),
+            digit_of(word % 16),
+        ],
+    );
+}
+
+// A name alone.
+fn named(name: &[u8]) -> ReportLine
+    requires { length name.now ≤ 10 }
+    ensures items { result.items ≡ name.now }
+    ensures len { array_vec_len result ≡ length name.now }
+{
+    let mut text = ReportLine::new();
+    put(&mut text, name);
+    text
+}
+
+// A name and an address.
+fn with_address(name: &[u8], at: u32) -> ReportLine
+    requires { length name.now ≤ 10 }
+    ensures items { result.items ≡ name.now ++ field at }
+    ensures len { array_vec_len result ≤ 50 }
+{
+    let mut text = named(name);
+    put_field(&mut text, at);
+    text
+}
+
+// A name, which ends with a space, and a number in decimal.
+fn with_number(name: &[u8], number: u64) -> ReportLine
+    requires { length name.now ≤ 10 }
+    ensures items { result.items ≡ name.now ++ decimal number }
+    ensures len { array_vec_len result ≤ 50 }
+{
+    let mut text = named(name);
+    let mut buffer = Buffer::new();
+    put(&mut text, buffer.format(number).as_bytes());
+    text
+}
+
+// The text of what makes a file no program.
+#[tactic(auto, unfolding(crate::specs::Reports::exe_error_text))]
+fn exe_error_text(error: ExeError) -> ReportLine
+    ensures items { result.items ≡ exe_error_text error }
+    ensures len { array_vec_len result ≤ 50 }
+{
+    match error {
+        ExeError::TooLong { limit } => with_number(b"TooLong ", limit as u64),
+        ExeError::Short => named(b"Short"),
+        ExeError::NoMark => named(b"NoMark"),
+        ExeError::TextRange { at } => with_address(b"TextRange", at),
+        ExeError::Truncated { need } => with_number(b"Truncated ", need),
+        ExeError::FillRange { at } => with_address(b"FillRange", at),
+        ExeError::BadPc { pc } => with_address(b"BadPc", pc),
+        ExeError::Memory => named(b"Memory"),
+    }
+}
+
+// A text between a head and a line feed.
+fn line_of(head: &[u8], text: &[u8]) -> ReportLine
+    requires head { length head.now ≤ 14 }
+    requires text { length text.now ≤ 50 }
+    ensures { result.items ≡ head.now ++ (text.now ++ codes "\n") }
+{
+    let mut line = ReportLine::new();
+    put(&mut line, head);
+    put(&mut line, text);
+    put(&mut line, b"\n");
+    line
+}
+
+/// The line that reports what makes a file no program.
+pub(crate) fn exe_line(error: ExeError) -> ReportLine
+    ensures { result.items ≡ exe_line error }
+{
+    line_of(b"psxk: exe: ", exe_error_text(error).as_slice())
+}
+
+/// The line that reports a stop.
+pub(crate) fn stop_line(stop: Stop) -> ReportLine
+    ensures { result.items ≡ stop_line stop }
+{
+    line_of(b"psxk: stopped ", stop_text(stop).as_slice())
+}
