@@ -4,6 +4,8 @@
 
 mod file_host;
 #[cfg(test)]
+mod rows;
+#[cfg(test)]
 mod tests;
 
 use file_host::FileHost;

@@ -1,0 +1,215 @@
+//! Whole runs of the top call over hosts in memory. The expected counts are those of a simulation of the image's words by hand.
+use psx_base::{MemoryHost, NoFailHost, Out};
+use psxk_run::psxk;
+use std::process::Abort;
+
+// Room for the memory and the texts of a short run.
+const ROOM: usize = 2_200_000;
+
+// The header of a program whose text and pc stand at 80010000h, with the words as its text.
+fn program<R: AllocGlobal + Abort>(rt: &R, words: &[u32]) -> Vec<u8> {
+    let mut file = vec![in rt.alloc(); 0u8; 0x800].expect(rt, "room");
+    file[..8].copy_from_slice(b"PS-X EXE");
+    file[0x10..0x14].copy_from_slice(&[0, 0, 1, 0x80]);
+    file[0x18..0x1C].copy_from_slice(&[0, 0, 1, 0x80]);
+    let size = (words.len() as u32).wrapping_mul(4);
+    file[0x1C..0x20].copy_from_slice(&size.to_le_bytes());
+    for word in words {
+        file.extend_from_slice(&word.to_le_bytes()).expect(rt, "room");
+    }
+    file
+}
+
+// A host that holds the file `a.exe`.
+fn host_with<R: AllocGlobal + Abort>(rt: &R, file: &[u8]) -> MemoryHost {
+    let mut host = MemoryHost::new(rt.alloc(), ROOM).expect(rt, "room");
+    host.put("a.exe", file).expect(rt, "put");
+    host
+}
+
+const RUN: [&str; 4] = ["run", "a.exe", "-", "2000000"];
+
+// `A3C(41h)`, then `A06(0)`.
+const HELLO: [u32; 9] = [
+    0x2404_0041, 0x2409_003C, 0x240A_00A0, 0x0140_F809, 0, 0x2404_0000, 0x2409_0006, 0x0140_0008, 0,
+];
+
+const HELLO_TRACE: &[u8] = b"B 38939
+E 38944 00000020 000000A0 A 0000003C
+X 38966 80010014 00000401 00000000 00000000 00000000 00000041 00000000 00000041 00000000 00000000 00000000 00000000 0000003C 000000A0 00000000 00000000 00000000 00000000 00000000 00000000 00000000 00000000 00000000 00000000 00000000 00000000 00000000 00000000 00000000 80010014 00000000 00000000 801FFF00 801FFF00 80010014
+E 38970 00000020 000000A0 A 00000006
+S 38992 Exit 00000000
+";
+
+#[test]
+fn prints_a_letter_and_exits(rt: HostRuntime) {
+    let mut host = host_with(&rt, &program(&rt, &HELLO));
+    assert_eq!(rt; psxk(rt.alloc(), &RUN, &mut host), 0);
+    assert_eq!(rt; host.sent(Out::Tty), b"A".as_slice());
+    assert_eq!(rt; host.sent(Out::Trace), HELLO_TRACE);
+    assert_eq!(rt; host.sent(Out::Ram).len(), 2_098_176);
+    assert_eq!(rt; host.sent(Out::Report), b"".as_slice());
+}
+
+#[test]
+fn ends_by_its_budget(rt: HostRuntime) {
+    let mut host = host_with(&rt, &program(&rt, &HELLO));
+    assert_eq!(rt; psxk(rt.alloc(), &["run", "a.exe", "-", "1"], &mut host), 0);
+    assert_eq!(rt; host.sent(Out::Tty), b"".as_slice());
+    assert_eq!(rt; host.sent(Out::Trace), b"S 1 Budget\n".as_slice());
+}
+
+#[test]
+fn knows_its_words(rt: HostRuntime) {
+    let usage = b"psxk: usage: run EXE SCHED BUDGET [CNF], image, asm TEXT, dis EXE, gen N\n".as_slice();
+    for words in [&["run"][..], &["run", "a", "-", "0"], &[], &["run", "a.exe", "x", "1"], &["--help"]] {
+        let mut host = host_with(&rt, &program(&rt, &HELLO));
+        assert_eq!(rt; psxk(rt.alloc(), words, &mut host), 2);
+        assert_eq!(rt; host.sent(Out::Report), usage);
+        assert_eq!(rt; host.sent(Out::Trace), b"".as_slice());
+    }
+}
+
+// A program's status and the end of its trace and report.
+fn stops<R: AllocGlobal + Abort>(rt: &R, words: &[u32], status: u8, stop: &[u8]) {
+    let mut host = host_with(rt, &program(rt, words));
+    assert_eq!(rt; psxk(rt.alloc(), &RUN, &mut host), status, "{stop:?}");
+    assert!(rt; host.sent(Out::Trace).ends_with(stop), "{stop:?}");
+    assert!(rt; status == 0 || host.sent(Out::Report).ends_with(stop), "{stop:?}");
+}
+
+#[test]
+fn names_what_the_kernel_does_not_serve(rt: HostRuntime) {
+    stops(&rt, &[0x2409_0031, 0x240A_00A0, 0x0140_F809, 0], 1, b" Unserved A 00000031 80010010\n");
+    stops(&rt, &[0x3C09_1000, 0x3529_003C, 0x240A_00A0, 0x0140_F809, 0], 1, b" Unserved A 1000003C 80010014\n");
+    stops(&rt, &[0x2409_0005, 0x240A_00B0, 0x0140_0008, 0], 1, b" Unserved B 00000005 000000D0\n");
+    stops(&rt, &[0x2409_0005, 0x240A_00C0, 0x0140_0008, 0], 1, b" Unserved C 00000005 000000D0\n");
+    stops(&rt, &[0x0000_000C], 1, b" Unserved Y 00000001 80010000\n");
+    stops(&rt, &[0x240A_00E0, 0x0140_0008, 0], 1, b" BadReturn 000000D0\n");
+    stops(&rt, &[0x2402_0007, 0x03E0_0008, 0], 0, b" Exit 00000007\n");
+}
+
+#[test]
+fn names_what_the_guard_bars(rt: HostRuntime) {
+    stops(&rt, &[0x8C02_0000], 1, b" UserData 80010000 00000000\n");
+    stops(&rt, &[0x0800_0020, 0], 1, b" UserFetch 80000080\n");
+    stops(&rt, &[0x4002_6000], 1, b" Protected 80010000\n");
+    stops(&rt, &[0x0800_4000, 0x0800_4000], 1, b" SlotBranch 80010004\n");
+    stops(&rt, &[0x3C03_8000, 0x8C62_0102], 1, b" Exception 00000004 80010004\n");
+    stops(&rt, &[0x0000_000D], 1, b" Exception 00000009 80010000\n");
+    stops(&rt, &[0x0800_4000, 0x0000_000C], 1, b" Exception 00000008 80010000\n");
+    stops(&rt, &[0x3C08_8000, 0x0108_4020], 1, b" Exception 0000000C 80010004\n");
+    stops(&rt, &[0x4800_0000], 1, b" Exception 0000000B 80010000\n");
+    stops(&rt, &[0x0000_0048], 1, b" Exception 0000000A 80010000\n");
+}
+
+#[test]
+fn computes_as_the_processor_does(rt: HostRuntime) {
+    // A division by zero: the quotient is FFFFFFFFh.
+    stops(&rt, &[0x2408_0007, 0x0100_001A, 0x0000_2012, 0x2409_0006, 0x240A_00A0, 0x0140_0008, 0], 0, b" Exit FFFFFFFF\n");
+
+    // LWR and LWL read an unaligned word.
+    stops(
+        &rt,
+        &[
+            0x3C08_8001, 0x2508_0020, 0x9904_0001, 0x8904_0004, 0x2409_0006, 0x240A_00A0, 0x0140_0008, 0, 0x4433_2211, 0x8877_6655,
+        ],
+        0,
+        b" Exit 55443322\n",
+    );
+
+    // The instruction after a load sees the old register.
+    stops(
+        &rt,
+        &[
+            0x3C03_8001, 0x2463_0030, 0x2402_0001, 0x8C62_0000, 0x0040_2021, 0x0040_2821, 0x0004_2100, 0x0085_2025, 0x2409_0006, 0x240A_00A0,
+            0x0140_0008, 0, 7,
+        ],
+        0,
+        b" Exit 00000017\n",
+    );
+}
+
+#[test]
+fn enters_by_a_gate_in_another_segment(rt: HostRuntime) {
+    let words = [0x3C0A_A000, 0x354A_00A0, 0x2404_0041, 0x2409_003C, 0x0140_0008, 0];
+    let mut host = host_with(&rt, &program(&rt, &words));
+    assert_eq!(rt; psxk(rt.alloc(), &RUN, &mut host), 0);
+    assert_eq!(rt; host.sent(Out::Tty), b"A".as_slice());
+    assert!(rt; host.sent(Out::Trace).starts_with(b"B 38939\nE 38945 00000020 A00000A0 A 0000003C\n"));
+    assert!(rt; host.sent(Out::Trace).ends_with(b" Exit 00000041\n"));
+}
+
+#[test]
+fn runs_to_the_end_of_user_memory(rt: HostRuntime) {
+    let mut host = host_with(&rt, &program(&rt, &[]));
+    assert_eq!(rt; psxk(rt.alloc(), &RUN, &mut host), 1);
+    assert_eq!(rt; host.sent(Out::Trace), b"B 38939\nS 546843 UserFetch 80200000\n".as_slice());
+    assert_eq!(rt; host.sent(Out::Report), b"psxk: stopped UserFetch 80200000\n".as_slice());
+}
+
+// A file that is no program, and the end of its report.
+fn refuses<R: AllocGlobal + Abort>(rt: &R, file: &[u8], report: &[u8]) {
+    let mut host = host_with(rt, file);
+    assert_eq!(rt; psxk(rt.alloc(), &RUN, &mut host), 3, "{report:?}");
+    assert_eq!(rt; host.sent(Out::Report), report);
+    assert_eq!(rt; host.sent(Out::Trace), b"".as_slice());
+    assert_eq!(rt; host.sent(Out::Ram), b"".as_slice());
+}
+
+#[test]
+fn refuses_what_is_no_program(rt: HostRuntime) {
+    let hello = program(&rt, &HELLO);
+    assert_eq!(rt; hello.len(), 2084);
+    refuses(&rt, &hello[..2047], b"psxk: exe: Short\n");
+    refuses(&rt, &hello[..2083], b"psxk: exe: Truncated 2084\n");
+    refuses(&rt, b"", b"psxk: exe: Short\n");
+    let mut file = program(&rt, &HELLO);
+    assert_eq!(rt; file.len(), 2084);
+    file[0x18..0x1C].copy_from_slice(&[0xFC, 0xFF, 0, 0x80]);
+    refuses(&rt, &file, b"psxk: exe: TextRange 8000FFFC\n");
+    let mut file = program(&rt, &HELLO);
+    assert_eq!(rt; file.len(), 2084);
+    file[0x10] = 2;
+    refuses(&rt, &file, b"psxk: exe: BadPc 80010002\n");
+    let mut file = program(&rt, &HELLO);
+    assert_eq!(rt; file.len(), 2084);
+    file[0x28..0x2C].copy_from_slice(&[0, 0, 0x20, 0x80]);
+    file[0x2C] = 4;
+    refuses(&rt, &file, b"psxk: exe: FillRange 80200000\n");
+}
+
+#[test]
+fn names_a_host_that_fails(rt: HostRuntime) {
+    let hello = program(&rt, &HELLO);
+    let mut host = host_with(&rt, &hello);
+    host.fail_load(1).expect(&rt, "room");
+    assert_eq!(rt; psxk(rt.alloc(), &RUN, &mut host), 5);
+    assert_eq!(rt; host.sent(Out::Report), b"psxk: read a.exe\n".as_slice());
+    assert_eq!(rt; host.sent(Out::Tty), b"".as_slice());
+    let mut host = MemoryHost::new(rt.alloc(), 0).expect(&rt, "room");
+    host.put("a.exe", &hello).expect(&rt, "put");
+    assert_eq!(rt; psxk(rt.alloc(), &RUN, &mut host), 6);
+    let mut host = NoFailHost::new(rt.alloc());
+    assert_eq!(rt; psxk(rt.alloc(), &RUN, &mut host), 3);
+    host.put("a.exe", &hello).expect(&rt, "put");
+    assert_eq!(rt; psxk(rt.alloc(), &RUN, &mut host), 0);
+}
+
+// A run makes four sends: the console's bytes, the trace, and the two parts of the memory.
+#[test]
+fn each_send_may_fail(rt: HostRuntime) {
+    let hello = program(&rt, &HELLO);
+    for call in 1..6u64 {
+        for after in 0..2usize {
+            let mut host = host_with(&rt, &hello);
+            host.fail_send(call, after).expect(&rt, "room");
+            host.fail_load(2).expect(&rt, "room");
+            let status = psxk(rt.alloc(), &RUN, &mut host);
+            assert_eq!(rt; status, if call < 5 { 6 } else { 0 });
+            assert!(rt; b"A".as_slice().starts_with(host.sent(Out::Tty)));
+            assert!(rt; HELLO_TRACE.starts_with(host.sent(Out::Trace)));
+            assert!(rt; call > 2 || host.sent(Out::Ram).is_empty());
+        }
+    }
+}
