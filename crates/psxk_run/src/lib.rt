@@ -5,6 +5,8 @@
 pub mod command;
 mod report;
 pub mod run;
+#[cfg(test)]
+mod tests;
 pub mod top;
 
 pub use run::{RunEnd, run_on};

@@ -1,4 +1,4 @@
-use Rattle.std.proofs.Common.{◌≡◌, ◌≤◌, ◌<◌, ◌*◌, ◌+◌, ◌-◌, ℕ, List, [], ◌∷◌, Option, Some, None, IfSome, sym, rules, tests, arith}
+use Rattle.std.proofs.Common.{◌≡◌, ◌≤◌, ◌<◌, ◌*◌, ◌+◌, ◌-◌, ℕ, List, [], ◌∷◌, Option, Some, None, IfSome, sym, rules, tests}
 use Rattle.psxk_run.specs.Command.{value_of, budget_of}
 use Rattle.psxk_run.proofs.command.budget.Goals as goal
 
