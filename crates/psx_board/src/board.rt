@@ -10,7 +10,7 @@ ghost use Rattle.psx_exe.specs.Reading.{IsReadable};
 ghost use Rattle.psx_board.specs.Machine.{Machine, start};
 ghost use Rattle.psx_board.specs.View.{view_of};
 ghost use Rattle.psx_board.specs.Turn.{turn, asked, answered, after_read, after_write, by_move};
-ghost use Rattle.psx_board.specs.Stands.{Stands, Turned};
+ghost use Rattle.psx_board.specs.Stands.{Stands, Turned, WentOn};
 ghost use Rattle.psx_ports.specs.History;
 ghost use Rattle.psx_ports.specs.History.{written};
 ghost use Rattle.psx_ports.specs.Stands.{StandsFor};
@@ -88,8 +88,10 @@ fn stack_top(exe: &Exe) -> u32
 }
 
 impl Board {
-    /// A board at reset, with a program placed in its memory and the sizes at the start ports. It takes all memory that the board ever needs.
-    /// A schedule with entries isn't taken yet.
+    /// A board at reset, with a program placed in its memory: the text, and then zeros in its fill. It takes all memory that the board ever needs, or gives Memory for want of it.
+    ///
+    /// The ROM's 80000h bytes stand at 1FC00000h, where the first instruction is fetched (PSX-SPX, Memory Map). The start ports answer with the program's pc, gp and stack,
+    /// and with the sizes: 4 to 16 threads and 16 to 64 events. A schedule with entries isn't taken yet.
     pub fn new(
         alloc: Global,
         rom: &[u8],
@@ -119,13 +121,15 @@ impl Board {
     }
 
     /// The number of finished steps since reset.
+    #[inline]
     pub fn taken(&self) -> u64
         ensures { result ≡ (view_of self.now).taken }
     {
         self.taken
     }
 
-    /// What a step stopped with, if one has.
+    /// What a step stopped with, if one has. A board that has stopped takes no further step.
+    #[inline]
     pub fn stopped(&self) -> Option<Stop>
         ensures { result ≡ (view_of self.now).stopped }
     {
@@ -133,27 +137,31 @@ impl Board {
     }
 
     /// Whether a line that isn't masked is pending, as the coming step finds it.
+    #[inline]
     pub fn line(&self) -> bool
         ensures { (m : Machine) → Stands (view_of self.now) m → result ≡ History.line m.history }
     {
         self.ports.line()
     }
 
-    /// The processor.
+    /// The processor, as the finished steps left it.
+    #[inline]
     pub fn cpu(&self) -> &Cpu
         ensures { result.now ≡ (view_of self.now).core.processor }
     {
         &self.cpu
     }
 
-    /// The memory.
+    /// The memory, by physical address: user and kernel memory, scratchpad and ROM.
+    #[inline]
     pub fn ram(&self) -> &Ram
         ensures { result.now ≡ (view_of self.now).core.bytes }
     {
         &self.ram
     }
 
-    // What the port that the coming step reads answers.
+    // What the port that the coming step reads answers, and 0 where it reads none.
+    #[inline]
     fn ask(&mut self, line: bool) -> u32
         ensures value { (m : Machine) → Stands (view_of self.old) m → line ≡ History.line m.history → result ≡ answered m.history (asked m) }
         ensures stands { (m : Machine) → Stands (view_of self.old) m → line ≡ History.line m.history → Stands (view_of self.new) (after_read m (asked m)) }
@@ -166,11 +174,14 @@ impl Board {
     }
 
     // Ends a step by what the processor did.
+    #[inline]
     fn finish(&mut self, did: Did) -> Did
         requires running { (view_of self.old).stopped ≡ None }
         requires room { (view_of self.old).taken < 2 ^ 64 - 1 }
         requires port { IsPortDid did }
-        ensures { (m : Machine) (move : Move) → StandsFor (view_of self.old).ports m.history → (view_of self.old).taken ≡ m.taken → Does m.core move did (view_of self.old).core → Turned m (by_move m move) result (view_of self.new) }
+        ensures counted { (view_of self.new).taken ≤ (view_of self.old).taken + 1 }
+        ensures runs_on { WentOn result → (view_of self.new).stopped ≡ None }
+        ensures turned { (m : Machine) (move : Move) → StandsFor (view_of self.old).ports m.history → (view_of self.old).taken ≡ m.taken → Does m.core move did (view_of self.old).core → Turned m (by_move m move) result (view_of self.new) }
     {
         match did {
             Did::PortWrite { at, value } => self.finish_write(at, value),
@@ -187,7 +198,9 @@ impl Board {
         requires running { (view_of self.old).stopped ≡ None }
         requires room { (view_of self.old).taken < 2 ^ 64 - 1 }
         requires port { IsTrue (port at) }
-        ensures { (m : Machine) → StandsFor (view_of self.old).ports m.history → (view_of self.old).taken ≡ m.taken → (view_of self.old).core ≡ m.core →
+        ensures counted { (view_of self.new).taken ≤ (view_of self.old).taken + 1 }
+        ensures runs_on { WentOn result → (view_of self.new).stopped ≡ None }
+        ensures turned { (m : Machine) → StandsFor (view_of self.old).ports m.history → (view_of self.old).taken ≡ m.taken → (view_of self.old).core ≡ m.core →
             Turned m (after_write m at value (written m.history at value)) result (view_of self.new) }
     {
         self.taken += 1;
@@ -199,6 +212,7 @@ impl Board {
     }
 
     // Counts a step.
+    #[inline]
     fn advance(&mut self, did: Did) -> Did
         requires { (view_of self.old).taken < 2 ^ 64 - 1 }
         ensures told { result ≡ did }
@@ -208,6 +222,7 @@ impl Board {
         did
     }
 
+    // Keeps what the board stopped with.
     fn stop(&mut self, stop: Stop) -> Did
         ensures told { result ≡ Did.Stopped stop }
         ensures stopped { view_of self.new ≡ record (view_of self.old) { stopped = Some stop } }
@@ -216,12 +231,18 @@ impl Board {
         Did::Stopped(stop)
     }
 
-    /// One step. A halt is Stopped, and finishes its step; a stop of the guard finishes none.
+    /// One step, and what it did: an instruction with its accesses, an exception, or a stop. No interrupt line is raised yet.
+    ///
+    /// A write to a port is told as PortWrite, to the console too: its byte is the word modulo 256. A halt is Stopped, and finishes its step; a stop of the guard finishes none.
+    /// Ports are told by physical address, and words are 32 bits.
+    #[inline]
     #[tactic(auto, unfolding(crate::specs::Turn::turn))]
     pub fn step(&mut self) -> Did
         requires running { (view_of self.old).stopped ≡ None }
         requires room { (view_of self.old).taken < 2 ^ 64 - 1 }
         ensures turns { (m : Machine) → Stands (view_of self.old) m → Turned m (turn m) result (view_of self.new) }
+        ensures counted { (view_of self.new).taken ≤ (view_of self.old).taken + 1 }
+        ensures runs_on { WentOn result → (view_of self.new).stopped ≡ None }
     {
         let line = self.ports.line();
         let value = self.ask(line);

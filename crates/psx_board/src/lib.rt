@@ -3,5 +3,7 @@
 #![tactic(auto)]
 
 pub mod board;
+#[cfg(test)]
+mod tests;
 
 pub use board::Board;

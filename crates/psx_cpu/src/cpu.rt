@@ -1,5 +1,5 @@
 //! The processor's registers, and the ways in which an instruction changes them.
-ghost use Rattle.std.specs.Prelude.{◌≡◌, ℕ, ◌+◌, ◌*◌, ◌/◌, ◌%◌, ◌^◌, ◌<◌, Bool, IsTrue, nat_eq, if◌then◌else◌};
+ghost use Rattle.std.specs.Prelude.{◌≡◌, ◌+◌, ◌^◌, ◌<◌, nat_eq, if◌then◌else◌};
 ghost use Rattle.psx_base.specs.Registers.{register};
 ghost use Rattle.psx_cpu.specs.Changes;
 ghost use Rattle.psx_cpu.specs.Exceptions;
@@ -126,7 +126,8 @@ impl Cpu {
 
     /// The cause of the last exception. Bit 10 is 0 here: it is the interrupt line at each step.
     pub fn cause(&self) -> u32
-        ensures { result ≡ self.now.cop0.cause }
+        ensures value { result ≡ self.now.cop0.cause }
+        ensures small { result < 2 ^ 31 + 2 ^ 7 }
     {
         self.cause
     }

@@ -1,5 +1,5 @@
 //! Results, branches and exceptions, each told as what a step did.
-ghost use Rattle.std.specs.Prelude.{◌≡◌, ◌+◌, ◌*◌, ◌-◌, ◌/◌, ◌%◌, ◌^◌, ◌<◌, ◌+ℤ◌, ◌-ℤ◌, ◌*ℤ◌, ◌&&◌, not, nat_eq, None, if◌then◌else◌, Bool};
+ghost use Rattle.std.specs.Prelude.{◌≡◌, ◌*◌, ◌/◌, ◌%◌, ◌^◌, ◌<◌, ◌*ℤ◌, ◌&&◌, not, if◌then◌else◌};
 ghost use Rattle.std.specs.Int.{w64, cast_unsigned};
 ghost use Rattle.psx_base.specs.Memory.{Memory};
 ghost use Rattle.psx_base.specs.Registers.{register};
@@ -189,11 +189,11 @@ impl Cpu {
         requires { (t.0 < 32) × (d.0 < 32) }
         ensures { (m : Memory) → Does (core_of self.old m) (decided (core_of self.old m) bus (MFC0 t d)) result (core_of self.new m) }
     {
-        if !self.latch() {
-            return Did::Stopped(Stop::Protected { pc: self.pc() });
+        if self.latch() {
+            self.load(t, self.cop0(d, bus.line));
+            return Did::Plain;
         }
-        self.load(t, self.cop0(d, bus.line));
-        Did::Plain
+        Did::Stopped(Stop::Protected { pc: self.pc() })
     }
 
     pub(crate) fn move_to_cop0(&mut self, t: Reg, d: Reg) -> Did

@@ -10,6 +10,8 @@ mod flow;
 mod peek;
 mod perform;
 pub mod step;
+#[cfg(test)]
+mod tests;
 
 pub use cpu::Cpu;
 pub use step::{BusAnswer, Did, PortRead};

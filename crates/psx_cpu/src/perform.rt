@@ -1,5 +1,5 @@
 //! Each instruction at pc, under the guard: the table of instructions.
-ghost use Rattle.std.specs.Prelude.{◌≡◌, IsTrue};
+ghost use Rattle.std.specs.Prelude.{IsTrue};
 ghost use Rattle.psx_ins.specs.Words.{fits_fields};
 ghost use Rattle.psx_cpu.specs.Views.{core_of};
 ghost use Rattle.psx_cpu.specs.Step.{decided, Does};

@@ -1,17 +1,15 @@
 //! One step of the processor.
-ghost use Rattle.std.specs.Prelude.{◌≡◌, ℕ, ◌+◌, ◌*◌, ◌/◌, ◌%◌, ◌^◌, ◌||◌, is_some};
+ghost use Rattle.std.specs.Prelude.{◌≡◌, ◌||◌, is_some};
 ghost use Rattle.psx_base.specs.Addresses.{user, gate_of};
 ghost use Rattle.psx_cpu.specs.Traps;
 ghost use Rattle.psx_cpu.specs.Views.{core_of};
 ghost use Rattle.psx_cpu.specs.Step;
 ghost use Rattle.psx_cpu.specs.Step.{Does, IsPortDid};
 
-use crate::access::{place, read_word};
-use crate::arithmetic::sign_extended;
+use crate::access::read_word;
 use crate::cpu::Cpu;
-use psx_base::{Addr, Stop, is_port};
+use psx_base::{Addr, Stop};
 use psx_ins::decode;
-use psx_ins::ins::Ins;
 use psx_ram::Ram;
 
 /// What a step gets from outside.

@@ -11,6 +11,7 @@ fn ports(alloc: Global) -> Result<Ports, Memory> {
 }
 
 #[test]
+#[tactic(auto, unfolding(psx_base::specs::PortAddresses::port))]
 fn answers_what_was_given(rt: HostRuntime) {
     let mut ports = ports(rt.alloc()).expect(&rt, "room");
     assert_eq!(rt; ports.read(START_PC), 0x8001_0000);
@@ -25,30 +26,40 @@ fn answers_what_was_given(rt: HostRuntime) {
     assert_eq!(rt; ports.read(START_PC), 0x8001_0000);
 }
 
+// The stop of a code after the words 2, 3Fh and 80010010h.
+#[tactic(auto, unfolding(psx_base::specs::PortAddresses::port))]
+fn halted_by(ports: &mut Ports, code: u32) -> PortDid {
+    ports.write(HALT_A, 2);
+    ports.write(HALT_B, 0x3F);
+    ports.write(HALT_C, 0x8001_0010);
+    ports.write(HALT, code)
+}
+
 #[test]
 fn stops_by_its_code(rt: HostRuntime) {
     let mut ports = ports(rt.alloc()).expect(&rt, "room");
-    assert!(rt; ports.write(HALT_A, 2) == PortDid::Quiet);
-    assert!(rt; ports.write(HALT_B, 0x3F) == PortDid::Quiet);
-    assert!(rt; ports.write(HALT_C, 0x8001_0010) == PortDid::Quiet);
     let unserved = Stop::Unserved {
         table: Table::C,
         number: 0x3F,
         ra: 0x8001_0010,
     };
-    assert!(rt; ports.write(HALT, 0) == PortDid::Quiet);
-    assert!(rt; ports.write(HALT, 1) == PortDid::Halt(Stop::Exit { code: 2 }));
-    assert!(rt; ports.write(HALT, 2) == PortDid::Halt(Stop::Exception { code: 2, pc: 0x3F }));
-    assert!(rt; ports.write(HALT, 3) == PortDid::Halt(unserved));
-    assert!(rt; ports.write(HALT, 4) == PortDid::Halt(Stop::BadPointer { at: 2, ra: 0x3F }));
-    assert!(rt;
-        ports.write(HALT, 5)
-            == PortDid::Halt(Stop::BadThread {
-                number: 2,
-                ra: 0x3F
-            })
-    );
-    assert!(rt; ports.write(HALT, 6) == PortDid::Halt(Stop::Deep { ra: 2 }));
-    assert!(rt; ports.write(HALT, 7) == PortDid::Halt(Stop::BadReturn { ra: 2 }));
-    assert!(rt; ports.write(HALT, 8) == PortDid::Quiet);
+    let stops = [
+        Stop::Exit { code: 2 },
+        Stop::Exception { code: 2, pc: 0x3F },
+        unserved,
+        Stop::BadPointer { at: 2, ra: 0x3F },
+        Stop::BadThread {
+            number: 2,
+            ra: 0x3F,
+        },
+        Stop::Deep { ra: 2 },
+        Stop::BadReturn { ra: 2 },
+    ];
+    let mut code = 0u32;
+    assert!(rt; halted_by(&mut ports, code) == PortDid::Quiet);
+    for stop in stops.iter() {
+        code = code.wrapping_add(1);
+        assert!(rt; halted_by(&mut ports, code) == PortDid::Halt(*stop));
+    }
+    assert!(rt; halted_by(&mut ports, 8) == PortDid::Quiet);
 }

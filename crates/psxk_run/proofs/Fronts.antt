@@ -1,5 +1,5 @@
 -- Fronts of texts.
-use Rattle.std.proofs.Common.{◌≡◌, ◌≢◌, ◌⊎◌, ℕ, ◌≤◌, List, [], ◌++◌, take, drop, Option, None, Some, Ok, Err, refl, sym, ap, ◌∙◌, inl, inr, arith, append-nil, append_assoc}
+use Rattle.std.proofs.Common.{◌≡◌, ◌≢◌, ◌⊎◌, ℕ, List, [], ◌++◌, take, drop, Option, None, Some, Ok, Err, refl, sym, ap, ◌∙◌, inl, inr, append-nil, append_assoc}
 use Rattle.std.proofs.lemmas.List.{take-append-drop}
 use Rattle.psx_base.specs.declared.host.Out.{Out}
 use Rattle.psx_base.specs.declared.host.Out.TheVariants.{Tty, Trace, Ram, Report}
@@ -14,9 +14,9 @@ use Rattle.kern_image.specs.Rom.{rom}
 use Rattle.psxk_run.specs.Command.{Command}
 use Rattle.psxk_run.specs.Sent.{Grew, GrewFront, OnlyReports}
 use Rattle.psxk_run.specs.Texts.{trace_text, report_of, status_of, Delivers, BreaksOff}
-use Rattle.psxk_run.specs.Reports.{exe_line, memory_line, read_line, stop_line}
+use Rattle.psxk_run.specs.Reports.{exe_line, memory_line, stop_line}
 use Rattle.psxk_run.specs.Top.{plain_sizes}
-use Rattle.psxk_run.specs.InPart.{ReportsFront, HasFronts, RanInPart, RefusedInPart, SentInPart, InRun, InFault, InRead, InMemory, FaultFront}
+use Rattle.psxk_run.specs.InPart.{ReportsFront, HasFronts, SentInPart, InRun, InFault, InMemory, FaultFront}
 use Rattle.psxk_run.proofs.Grew.{grew_more}
 use Rattle.psxk_run.proofs.Ends.{grew_nothing, loud_report, read_fault}
 

@@ -1,3 +1,8 @@
+pub mod GoingOn
+pub mod Tellings
+pub mod Streams
+pub mod Runs
+pub mod Endings
 pub mod Grew
 pub mod Ends
 pub mod Fronts

@@ -1,5 +1,7 @@
 pub mod Sent
 pub mod Texts
+pub mod Pieces
+pub mod Underway
 pub mod Command
 pub mod Told
 pub mod Words

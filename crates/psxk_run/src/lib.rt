@@ -3,8 +3,12 @@
 #![tactic(auto)]
 
 pub mod command;
+mod items;
+mod lines;
+mod pieces;
 mod report;
 pub mod run;
+mod steps;
 #[cfg(test)]
 mod tests;
 pub mod top;

@@ -1,5 +1,5 @@
 //! The top call: all that the program does.
-ghost use Rattle.std.specs.Prelude.{◌≡◌, ◌≢◌, ◌⊎◌, ◌<◌, ◌≤◌, ◌+◌, ◌^◌, ℕ, List, ◌++◌, map, codes, IfSome, IsNone, OnOk, OnErr, None, IsTrue, ◌↔◌};
+ghost use Rattle.std.specs.Prelude.{◌≡◌, false, ◌≢◌, ◌⊎◌, ◌<◌, ◌≤◌, ◌+◌, ◌^◌, ℕ, List, ◌++◌, map, codes, IfSome, IsNone, OnOk, OnErr, None, IsTrue, ◌↔◌};
 ghost use Rattle.psx_base.specs.Host.{Rose};
 ghost use Rattle.psx_base.specs.declared.host.Out.{Out};
 ghost use Rattle.psx_board.specs.Machine.{Machine};
@@ -143,8 +143,8 @@ fn run_board<H: Host>(host: &mut H, board: &mut Board, budget: u32) -> u8
     requires fresh { (view_of board.old).taken ≡ 0 }
     requires running { (view_of board.old).stopped ≡ None }
     requires budget { 0 < budget }
-    ensures ran { (m : Machine) → Stands (view_of board.old) m → RunsBoard (H.sent host.old) (H.sent host.new) (H.send_faults host.old) (H.send_faults host.new) (Run.run budget m) result }
-    ensures fronts { (m : Machine) → Stands (view_of board.old) m → HasFronts (H.sent host.old) (H.sent host.new) (Run.run budget m) }
+    ensures ran { (m : Machine) → Stands (view_of board.old) m → m.began ≡ false → RunsBoard (H.sent host.old) (H.sent host.new) (H.send_faults host.old) (H.send_faults host.new) (Run.run budget m) result }
+    ensures fronts { (m : Machine) → Stands (view_of board.old) m → m.began ≡ false → HasFronts (H.sent host.old) (H.sent host.new) (Run.run budget m) }
     ensures on { GoesOn H.holds H.load_faults H.send_faults host.old host.new }
 {
     match run_on(board, budget, host) {
