@@ -9,6 +9,8 @@ mod pieces;
 mod report;
 pub mod run;
 mod steps;
+#[cfg(test)]
+mod tests;
 pub mod top;
 
 pub use run::{RunEnd, run_on};
