@@ -12,10 +12,13 @@ fn program<R: AllocGlobal + Abort>(rt: &R, words: &[u32]) -> Vec<u8> {
     file[..8].copy_from_slice(b"PS-X EXE");
     file[0x10..0x14].copy_from_slice(&[0, 0, 1, 0x80]);
     file[0x18..0x1C].copy_from_slice(&[0, 0, 1, 0x80]);
-    let size = (words.len() as u32).wrapping_mul(4);
+    let size = u32::try_from(words.len())
+        .expect(rt, "size")
+        .wrapping_mul(4);
     file[0x1C..0x20].copy_from_slice(&size.to_le_bytes());
     for word in words {
-        file.extend_from_slice(&word.to_le_bytes()).expect(rt, "room");
+        file.extend_from_slice(&word.to_le_bytes())
+            .expect(rt, "room");
     }
     file
 }
@@ -31,7 +34,15 @@ const RUN: [&str; 4] = ["run", "a.exe", "-", "2000000"];
 
 // `A3C(41h)`, then `A06(0)`.
 const HELLO: [u32; 9] = [
-    0x2404_0041, 0x2409_003C, 0x240A_00A0, 0x0140_F809, 0, 0x2404_0000, 0x2409_0006, 0x0140_0008, 0,
+    0x2404_0041,
+    0x2409_003C,
+    0x240A_00A0,
+    0x0140_F809,
+    0,
+    0x2404_0000,
+    0x2409_0006,
+    0x0140_0008,
+    0,
 ];
 
 const HELLO_TRACE: &[u8] = b"B 38939
@@ -61,8 +72,15 @@ fn ends_by_its_budget(rt: HostRuntime) {
 
 #[test]
 fn knows_its_words(rt: HostRuntime) {
-    let usage = b"psxk: usage: run EXE SCHED BUDGET [CNF], image, asm TEXT, dis EXE, gen N\n".as_slice();
-    for words in [&["run"][..], &["run", "a", "-", "0"], &[], &["run", "a.exe", "x", "1"], &["--help"]] {
+    let usage =
+        b"psxk: usage: run EXE SCHED BUDGET [CNF], image, asm TEXT, dis EXE, gen N\n".as_slice();
+    for words in [
+        &["run"][..],
+        &["run", "a", "-", "0"],
+        &[],
+        &["run", "a.exe", "x", "1"],
+        &["--help"],
+    ] {
         let mut host = host_with(&rt, &program(&rt, &HELLO));
         assert_eq!(rt; psxk(rt.alloc(), words, &mut host), 2);
         assert_eq!(rt; host.sent(Out::Report), usage);
@@ -75,17 +93,45 @@ fn stops<R: AllocGlobal + Abort>(rt: &R, words: &[u32], status: u8, stop: &[u8])
     let mut host = host_with(rt, &program(rt, words));
     assert_eq!(rt; psxk(rt.alloc(), &RUN, &mut host), status, "{stop:?}");
     assert!(rt; host.sent(Out::Trace).ends_with(stop), "{stop:?}");
-    assert!(rt; status == 0 || host.sent(Out::Report).ends_with(stop), "{stop:?}");
+    assert!(rt;
+        status == 0 || host.sent(Out::Report).ends_with(stop),
+        "{stop:?}"
+    );
 }
 
 #[test]
 fn names_what_the_kernel_does_not_serve(rt: HostRuntime) {
-    stops(&rt, &[0x2409_0031, 0x240A_00A0, 0x0140_F809, 0], 1, b" Unserved A 00000031 80010010\n");
-    stops(&rt, &[0x3C09_1000, 0x3529_003C, 0x240A_00A0, 0x0140_F809, 0], 1, b" Unserved A 1000003C 80010014\n");
-    stops(&rt, &[0x2409_0005, 0x240A_00B0, 0x0140_0008, 0], 1, b" Unserved B 00000005 000000D0\n");
-    stops(&rt, &[0x2409_0005, 0x240A_00C0, 0x0140_0008, 0], 1, b" Unserved C 00000005 000000D0\n");
+    stops(
+        &rt,
+        &[0x2409_0031, 0x240A_00A0, 0x0140_F809, 0],
+        1,
+        b" Unserved A 00000031 80010010\n",
+    );
+    stops(
+        &rt,
+        &[0x3C09_1000, 0x3529_003C, 0x240A_00A0, 0x0140_F809, 0],
+        1,
+        b" Unserved A 1000003C 80010014\n",
+    );
+    stops(
+        &rt,
+        &[0x2409_0005, 0x240A_00B0, 0x0140_0008, 0],
+        1,
+        b" Unserved B 00000005 000000D0\n",
+    );
+    stops(
+        &rt,
+        &[0x2409_0005, 0x240A_00C0, 0x0140_0008, 0],
+        1,
+        b" Unserved C 00000005 000000D0\n",
+    );
     stops(&rt, &[0x0000_000C], 1, b" Unserved Y 00000001 80010000\n");
-    stops(&rt, &[0x240A_00E0, 0x0140_0008, 0], 1, b" BadReturn 000000D0\n");
+    stops(
+        &rt,
+        &[0x240A_00E0, 0x0140_0008, 0],
+        1,
+        b" BadReturn 000000D0\n",
+    );
     stops(&rt, &[0x2402_0007, 0x03E0_0008, 0], 0, b" Exit 00000007\n");
 }
 
@@ -94,25 +140,149 @@ fn names_what_the_guard_bars(rt: HostRuntime) {
     stops(&rt, &[0x8C02_0000], 1, b" UserData 80010000 00000000\n");
     stops(&rt, &[0x0800_0020, 0], 1, b" UserFetch 80000080\n");
     stops(&rt, &[0x4002_6000], 1, b" Protected 80010000\n");
-    stops(&rt, &[0x0800_4000, 0x0800_4000], 1, b" SlotBranch 80010004\n");
-    stops(&rt, &[0x3C03_8000, 0x8C62_0102], 1, b" Exception 00000004 80010004\n");
+    stops(
+        &rt,
+        &[0x0800_4000, 0x0800_4000],
+        1,
+        b" SlotBranch 80010004\n",
+    );
+    stops(
+        &rt,
+        &[0x3C03_8000, 0x8C62_0102],
+        1,
+        b" Exception 00000004 80010004\n",
+    );
     stops(&rt, &[0x0000_000D], 1, b" Exception 00000009 80010000\n");
-    stops(&rt, &[0x0800_4000, 0x0000_000C], 1, b" Exception 00000008 80010000\n");
-    stops(&rt, &[0x3C08_8000, 0x0108_4020], 1, b" Exception 0000000C 80010004\n");
+    stops(
+        &rt,
+        &[0x0800_4000, 0x0000_000C],
+        1,
+        b" Exception 00000008 80010000\n",
+    );
+    stops(
+        &rt,
+        &[0x3C08_8000, 0x0108_4020],
+        1,
+        b" Exception 0000000C 80010004\n",
+    );
     stops(&rt, &[0x4800_0000], 1, b" Exception 0000000B 80010000\n");
     stops(&rt, &[0x0000_0048], 1, b" Exception 0000000A 80010000\n");
 }
 
 #[test]
-fn computes_as_the_processor_does(rt: HostRuntime) {
-    // A division by zero: the quotient is FFFFFFFFh.
-    stops(&rt, &[0x2408_0007, 0x0100_001A, 0x0000_2012, 0x2409_0006, 0x240A_00A0, 0x0140_0008, 0], 0, b" Exit FFFFFFFF\n");
+fn shows_the_entry_of_an_exception(rt: HostRuntime) {
+    let mut host = host_with(&rt, &program(&rt, &[0x3C03_8000, 0x8C62_0102]));
+    assert_eq!(rt; psxk(rt.alloc(), &RUN, &mut host), 1);
+    assert!(rt;
+        host.sent(Out::Trace)
+            .starts_with(b"B 38939\nE 38940 00000010 80010004 T 00000004\nS ")
+    );
+    assert!(rt;
+        host.sent(Out::Trace)
+            .ends_with(b" Exception 00000004 80010004\n")
+    );
+    let mut host = host_with(&rt, &program(&rt, &[0x8C02_0000]));
+    assert_eq!(rt; psxk(rt.alloc(), &RUN, &mut host), 1);
+    assert_eq!(rt;
+        host.sent(Out::Trace),
+        b"B 38939\nS 38939 UserData 80010000 00000000\n".as_slice()
+    );
+}
 
+// Divides the words of r8 by that of r9, and exits with the quotient, then with the remainder.
+fn divides<R: AllocGlobal + Abort>(rt: &R, divide: u32, numbers: [u32; 2], results: [&[u8]; 2]) {
+    let [left, right] = numbers;
+    let [quotient, remainder] = results;
+    let set = [
+        0x3C08_0000 | left >> 16,
+        0x3508_0000 | left & 0xFFFF,
+        0x3C09_0000 | right >> 16,
+        0x3529_0000 | right & 0xFFFF,
+        divide,
+    ];
+    let [a, b, c, d, e] = set;
+    stops(
+        rt,
+        &[
+            a,
+            b,
+            c,
+            d,
+            e,
+            0x0000_2012,
+            0x2409_0006,
+            0x240A_00A0,
+            0x0140_0008,
+            0,
+        ],
+        0,
+        quotient,
+    );
+    stops(
+        rt,
+        &[
+            a,
+            b,
+            c,
+            d,
+            e,
+            0x0000_2010,
+            0x2409_0006,
+            0x240A_00A0,
+            0x0140_0008,
+            0,
+        ],
+        0,
+        remainder,
+    );
+}
+
+#[test]
+fn divides_as_the_processor_does(rt: HostRuntime) {
+    let signed = 0x0109_001A;
+    let unsigned = 0x0109_001B;
+    divides(
+        &rt,
+        unsigned,
+        [7, 0],
+        [b" Exit FFFFFFFF\n", b" Exit 00000007\n"],
+    );
+    divides(
+        &rt,
+        signed,
+        [7, 0],
+        [b" Exit FFFFFFFF\n", b" Exit 00000007\n"],
+    );
+    divides(
+        &rt,
+        signed,
+        [0xFFFF_FFF9, 0],
+        [b" Exit 00000001\n", b" Exit FFFFFFF9\n"],
+    );
+    divides(
+        &rt,
+        signed,
+        [0x8000_0000, 0xFFFF_FFFF],
+        [b" Exit 80000000\n", b" Exit 00000000\n"],
+    );
+}
+
+#[test]
+fn computes_as_the_processor_does(rt: HostRuntime) {
     // LWR and LWL read an unaligned word.
     stops(
         &rt,
         &[
-            0x3C08_8001, 0x2508_0020, 0x9904_0001, 0x8904_0004, 0x2409_0006, 0x240A_00A0, 0x0140_0008, 0, 0x4433_2211, 0x8877_6655,
+            0x3C08_8001,
+            0x2508_0020,
+            0x9904_0001,
+            0x8904_0004,
+            0x2409_0006,
+            0x240A_00A0,
+            0x0140_0008,
+            0,
+            0x4433_2211,
+            0x8877_6655,
         ],
         0,
         b" Exit 55443322\n",
@@ -122,8 +292,19 @@ fn computes_as_the_processor_does(rt: HostRuntime) {
     stops(
         &rt,
         &[
-            0x3C03_8001, 0x2463_0030, 0x2402_0001, 0x8C62_0000, 0x0040_2021, 0x0040_2821, 0x0004_2100, 0x0085_2025, 0x2409_0006, 0x240A_00A0,
-            0x0140_0008, 0, 7,
+            0x3C03_8001,
+            0x2463_0030,
+            0x2402_0001,
+            0x8C62_0000,
+            0x0040_2021,
+            0x0040_2821,
+            0x0004_2100,
+            0x0085_2025,
+            0x2409_0006,
+            0x240A_00A0,
+            0x0140_0008,
+            0,
+            7,
         ],
         0,
         b" Exit 00000017\n",
@@ -132,11 +313,21 @@ fn computes_as_the_processor_does(rt: HostRuntime) {
 
 #[test]
 fn enters_by_a_gate_in_another_segment(rt: HostRuntime) {
-    let words = [0x3C0A_A000, 0x354A_00A0, 0x2404_0041, 0x2409_003C, 0x0140_0008, 0];
+    let words = [
+        0x3C0A_A000,
+        0x354A_00A0,
+        0x2404_0041,
+        0x2409_003C,
+        0x0140_0008,
+        0,
+    ];
     let mut host = host_with(&rt, &program(&rt, &words));
     assert_eq!(rt; psxk(rt.alloc(), &RUN, &mut host), 0);
     assert_eq!(rt; host.sent(Out::Tty), b"A".as_slice());
-    assert!(rt; host.sent(Out::Trace).starts_with(b"B 38939\nE 38945 00000020 A00000A0 A 0000003C\n"));
+    assert!(rt;
+        host.sent(Out::Trace)
+            .starts_with(b"B 38939\nE 38945 00000020 A00000A0 A 0000003C\n")
+    );
     assert!(rt; host.sent(Out::Trace).ends_with(b" Exit 00000041\n"));
 }
 
@@ -144,8 +335,14 @@ fn enters_by_a_gate_in_another_segment(rt: HostRuntime) {
 fn runs_to_the_end_of_user_memory(rt: HostRuntime) {
     let mut host = host_with(&rt, &program(&rt, &[]));
     assert_eq!(rt; psxk(rt.alloc(), &RUN, &mut host), 1);
-    assert_eq!(rt; host.sent(Out::Trace), b"B 38939\nS 546843 UserFetch 80200000\n".as_slice());
-    assert_eq!(rt; host.sent(Out::Report), b"psxk: stopped UserFetch 80200000\n".as_slice());
+    assert_eq!(rt;
+        host.sent(Out::Trace),
+        b"B 38939\nS 546843 UserFetch 80200000\n".as_slice()
+    );
+    assert_eq!(rt;
+        host.sent(Out::Report),
+        b"psxk: stopped UserFetch 80200000\n".as_slice()
+    );
 }
 
 // A file that is no program, and the end of its report.
@@ -159,10 +356,11 @@ fn refuses<R: AllocGlobal + Abort>(rt: &R, file: &[u8], report: &[u8]) {
 
 #[test]
 fn refuses_what_is_no_program(rt: HostRuntime) {
-    let hello = program(&rt, &HELLO);
-    assert_eq!(rt; hello.len(), 2084);
-    refuses(&rt, &hello[..2047], b"psxk: exe: Short\n");
-    refuses(&rt, &hello[..2083], b"psxk: exe: Truncated 2084\n");
+    let mut file = program(&rt, &HELLO);
+    file.truncate(2083);
+    refuses(&rt, &file, b"psxk: exe: Truncated 2084\n");
+    file.truncate(2047);
+    refuses(&rt, &file, b"psxk: exe: Short\n");
     refuses(&rt, b"", b"psxk: exe: Short\n");
     let mut file = program(&rt, &HELLO);
     assert_eq!(rt; file.len(), 2084);
@@ -180,6 +378,18 @@ fn refuses_what_is_no_program(rt: HostRuntime) {
 }
 
 #[test]
+fn refuses_a_header_by_its_first_fault(rt: HostRuntime) {
+    let mut file = program(&rt, &[0]);
+    assert_eq!(rt; file.len(), 2052);
+    file[0x1C..0x20].copy_from_slice(&[0, 8, 0, 0]);
+    refuses(&rt, &file, b"psxk: exe: Truncated 4096\n");
+    file[0x18..0x1C].copy_from_slice(&[0xFC, 0xFF, 0, 0x80]);
+    refuses(&rt, &file, b"psxk: exe: TextRange 8000FFFC\n");
+    file[0] = 0;
+    refuses(&rt, &file, b"psxk: exe: NoMark\n");
+}
+
+#[test]
 fn names_a_host_that_fails(rt: HostRuntime) {
     let hello = program(&rt, &HELLO);
     let mut host = host_with(&rt, &hello);
@@ -190,6 +400,9 @@ fn names_a_host_that_fails(rt: HostRuntime) {
     let mut host = MemoryHost::new(rt.alloc(), 0).expect(&rt, "room");
     host.put("a.exe", &hello).expect(&rt, "put");
     assert_eq!(rt; psxk(rt.alloc(), &RUN, &mut host), 6);
+    for out in [Out::Tty, Out::Trace, Out::Ram, Out::Report] {
+        assert_eq!(rt; host.sent(out), b"".as_slice());
+    }
     let mut host = NoFailHost::new(rt.alloc());
     assert_eq!(rt; psxk(rt.alloc(), &RUN, &mut host), 3);
     host.put("a.exe", &hello).expect(&rt, "put");
