@@ -14,9 +14,9 @@ use Rattle.psx_board.specs.Machine.{Machine}
 use Rattle.psx_board.specs.Turn.{Turn, On, Ends, turn}
 use Rattle.psx_board.specs.Run.{Outcome, run, ended, then_run}
 use Rattle.psx_board.specs.Stands.{View, Stands, Turned, WentOn, told_items, begun, console_bytes}
-use Rattle.psxk_run.specs.Texts.{trace_text, BreaksOff}
+use Rattle.psxk_run.specs.Texts.{trace_text, BreaksOff, Partway}
 use Rattle.psxk_run.specs.Pieces.{Tells, Stream, BreaksOne, AtTty, AtTrace}
-use Rattle.psxk_run.specs.Underway.{Underway, Reached, Stopped}
+use Rattle.psxk_run.specs.Underway.{Underway, Reached, Stopped, Made}
 use Rattle.psxk_run.proofs.Tellings.{trace_text-append, trace_text-one}
 use Rattle.psxk_run.proofs.Streams.{stream-start, stream-puts, stream-front, front-none, front-sends, front-more}
 
@@ -148,3 +148,32 @@ reached-breaks whole n b b0 before mid now tty trace r (AtTrace e) =
       late = inl (e.others Ram (λ x. cc) ∙ u.ram);
       report = e.others Report (λ x. cc) ∙ u.report;
     }
+
+-- ---- the steps that were made
+
+pub made-start : (m : Machine) (b : View) → Stands b m → Made m 0 b
+made-start m b s = record { machine = m; stands = s; further = λ more. (let same : 0 + more ≡ more = omega arith in ap (λ (k : ℕ). (run k m).last) same) }
+
+made-step : (first m : Machine) (done : ℕ) (t : Turn) (did : Did) (new : View) → Turned m t did new → WentOn did
+    → ((more : ℕ) → (run (done + suc more) first).last ≡ (then_run t (run more)).last) → Made first (done + 1) new
+made-step first m done (Ends last stop) did new h went e = absurd (subst WentOn h.told went)
+made-step first m done (On next items bytes) did new h went e = record {
+  machine = next;
+  stands = h.stands;
+  further = λ more. let same : done + 1 + more ≡ done + suc more = omega arith in rw same (e more);
+}
+
+pub made-on : (first : Machine) (done : ℕ) (old new : View) (did : Did) → (d : Made first done old) → Turned d.machine (turn d.machine) did new → WentOn did → Made first (done + 1) new
+made-on first done old new did d turned went =
+    made-step first d.machine done (turn d.machine) did new turned went
+    (λ more. d.further (suc more) ∙ ap (λ (o : Outcome). o.last) (run-suc more d.machine))
+
+pub made-partway : (first : Machine) (done n : ℕ) (b : View) → Made first done b → done ≤ n → Partway b n first
+made-partway first done n b d h = record {
+  made = done;
+  within = h;
+  stands =
+      let zero : done ≡ done + 0 = omega arith in
+      let last : (run done first).last ≡ d.machine = (ap (λ (k : ℕ). (run k first).last) zero ∙ d.further 0) ∙ ap (λ (o : Outcome). o.last) (run-zero d.machine) in
+      subst (λ (m : Machine). Stands b m) (sym last) d.stands;
+}

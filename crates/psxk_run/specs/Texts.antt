@@ -1,5 +1,5 @@
 -- The texts that a run sends.
-use Rattle.std.specs.Prelude.{◌≡◌, ◌⊎◌, ℕ, ◌+◌, List, [], ◌∷◌, ◌++◌, codes, map, Option}
+use Rattle.std.specs.Prelude.{◌≡◌, ◌⊎◌, ℕ, ◌+◌, ◌≤◌, List, [], ◌∷◌, ◌++◌, codes, map, Option}
 use Rattle.std.specs.List.{range_with_len}
 use Rattle.psx_base.specs.declared.host.Out.{Out}
 use Rattle.psx_base.specs.declared.host.Out.TheVariants.{Tty, Trace, Ram, Report}
@@ -9,7 +9,9 @@ use Rattle.psx_base.specs.Items.{Item}
 use Rattle.psx_base.specs.Memory.{Memory, byte}
 use Rattle.psx_trace.specs.Line.{line}
 use Rattle.psx_trace.specs.StopText.{stop_text}
-use Rattle.psx_board.specs.Run.{Outcome}
+use Rattle.psx_board.specs.Machine.{Machine}
+use Rattle.psx_board.specs.Run.{Outcome, run}
+use Rattle.psx_board.specs.Stands.{View, Stands}
 use Rattle.psxk_run.specs.Sent.{Grew, GrewFront}
 use Rattle.psxk_run.specs.declared.run.RunEnd.{RunEnd}
 use Rattle.psxk_run.specs.declared.run.RunEnd.TheVariants.{Done, Failed}
@@ -53,6 +55,12 @@ pub record BreaksOff (before now : Out → Option (List ℕ)) (o : Outcome) : Ty
   pub ram : GrewFront (before Ram) (now Ram) (ram_text o.last.core.bytes)
   pub late : (now Ram ≡ before Ram) ⊎ (Grew (before Tty) (now Tty) o.tty × Grew (before Trace) (now Trace) (trace_text o.items))
   pub report : now Report ≡ before Report
+
+-- a board is as after some of a run's steps, the budget's at most
+pub record Partway (b : View) (budget : ℕ) (m : Machine) : Type 0 where
+  pub made : ℕ
+  pub within : made ≤ budget
+  pub stands : Stands b (run made m).last
 
 -- what holds of how a run on a board ended
 abbrev pub IfDone : RunEnd → (Stop → Type 0) → Type 0

@@ -1,5 +1,5 @@
 -- A run on its way: what its host was sent, and what waits, are the front of the whole run's texts.
-use Rattle.std.specs.Prelude.{◌≡◌, ℕ, Bool, List, [], Option}
+use Rattle.std.specs.Prelude.{◌≡◌, ℕ, ◌+◌, Bool, List, [], Option}
 use Rattle.psx_base.specs.declared.host.Out.{Out}
 use Rattle.psx_base.specs.declared.host.Out.TheVariants.{Tty, Trace, Ram, Report}
 use Rattle.psx_base.specs.declared.stop.Stop.{Stop}
@@ -35,3 +35,9 @@ pub record Stopped (whole : Outcome) (stop : Stop) (b : View) (before now : Out 
   pub stands : Stands b whole.last
   pub ram : now Ram ≡ before Ram
   pub report : now Report ≡ before Report
+
+-- a board stands for a machine whose further steps, however many, are those of a run after its first ones
+pub record Made (first : Machine) (done : ℕ) (b : View) : Type 0 where
+  pub machine : Machine
+  pub stands : Stands b machine
+  pub further : (more : ℕ) → (run (done + more) first).last ≡ (run more machine).last

@@ -7,7 +7,7 @@ ghost use Rattle.psx_board.specs.Run.{run};
 ghost use Rattle.psx_board.specs.Stands.{Stands};
 ghost use Rattle.psx_board.specs.View.{view_of};
 ghost use Rattle.psxk_run.specs.Sent.{Grew, GrewFront, GoesOn, OnlyOn};
-ghost use Rattle.psxk_run.specs.Texts.{ram_text, Delivers, BreaksOff, IfDone, OnFailed};
+ghost use Rattle.psxk_run.specs.Texts.{ram_text, Delivers, BreaksOff, Partway, IfDone, OnFailed};
 
 use crate::lines::Lines;
 use crate::steps::steps;
@@ -49,6 +49,7 @@ fn sends<H: Host>(board: &mut Board, budget: u32, host: &mut H) -> Result<Stop, 
     ensures sent { (m : Machine) → Stands (view_of board.old) m → m.began ≡ false → OnOk result (Delivers (H.sent host.old) (H.sent host.new) (run budget m)) }
     ensures left { (m : Machine) → Stands (view_of board.old) m → m.began ≡ false → OnOk result (Stands (view_of board.new) (run budget m).last) }
     ensures fronts { (m : Machine) → Stands (view_of board.old) m → m.began ≡ false → OnErr result (BreaksOff (H.sent host.old) (H.sent host.new) (run budget m)) }
+    ensures partway { (m : Machine) → Stands (view_of board.old) m → m.began ≡ false → OnErr result (Partway (view_of board.new) budget m) }
     ensures failed { OnErr result (Rose (H.send_faults host.old) (H.send_faults host.new)) }
     ensures on { GoesOn H.holds H.load_faults H.send_faults host.old host.new }
 {
@@ -78,9 +79,10 @@ pub fn run_on<H: Host>(board: &mut Board, budget: u32, host: &mut H) -> RunEnd
     ensures sent { (m : Machine) → Stands (view_of board.old) m → m.began ≡ false → IfDone result (λ stop. Delivers (H.sent host.old) (H.sent host.new) (run budget m)) }
     ensures left { (m : Machine) → Stands (view_of board.old) m → m.began ≡ false → IfDone result (λ stop. Stands (view_of board.new) (run budget m).last) }
 
-    // Failed comes only where a count of sends rose, and leaves a front of each text.
+    // Failed comes only where a count of sends rose. It leaves a front of each text, and the board as after the steps that were made.
     ensures failed { OnFailed result (Rose (H.send_faults host.old) (H.send_faults host.new)) }
     ensures fronts { (m : Machine) → Stands (view_of board.old) m → m.began ≡ false → OnFailed result (BreaksOff (H.sent host.old) (H.sent host.new) (run budget m)) }
+    ensures partway { (m : Machine) → Stands (view_of board.old) m → m.began ≡ false → OnFailed result (Partway (view_of board.new) budget m) }
     ensures on { GoesOn H.holds H.load_faults H.send_faults host.old host.new }
 {
     match sends(board, budget, host) {

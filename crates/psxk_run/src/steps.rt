@@ -6,7 +6,7 @@ ghost use Rattle.psx_board.specs.Run.{run};
 ghost use Rattle.psx_board.specs.Stands.{Stands};
 ghost use Rattle.psx_board.specs.View.{view_of};
 ghost use Rattle.psxk_run.specs.Sent.{GoesOn};
-ghost use Rattle.psxk_run.specs.Texts.{BreaksOff};
+ghost use Rattle.psxk_run.specs.Texts.{BreaksOff, Partway};
 ghost use Rattle.psxk_run.specs.Underway.{Stopped};
 
 use crate::lines::Lines;
@@ -29,6 +29,7 @@ pub(crate) fn steps<H: Host>(
     ensures stopped { (m : Machine) → Stands (view_of board.old) m → m.began ≡ false →
         IfOk result (λ stop. Stopped (run budget m) stop (view_of board.new) (H.sent host.old) (H.sent host.new) lines.new.tty.items lines.new.trace.items) }
     ensures breaks { (m : Machine) → Stands (view_of board.old) m → m.began ≡ false → OnErr result (BreaksOff (H.sent host.old) (H.sent host.new) (run budget m)) }
+    ensures partway { (m : Machine) → Stands (view_of board.old) m → OnErr result (Partway (view_of board.new) budget m) }
     ensures failed { OnErr result (Rose (H.send_faults host.old) (H.send_faults host.new)) }
     ensures on { GoesOn H.holds H.load_faults H.send_faults host.old host.new }
 {

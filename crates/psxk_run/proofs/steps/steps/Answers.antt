@@ -1,4 +1,4 @@
-use Rattle.std.proofs.Common.{◌≡◌, ◌-◌, false, arith, subst}
+use Rattle.std.proofs.Common.{◌≡◌, ◌+◌, ◌-◌, false, arith, subst}
 use Rattle.psx_cpu.specs.Processor.{Core, Processor}
 use Rattle.psx_cpu.specs.Views.{core_of}
 use Rattle.psx_board.specs.Run.{run}
@@ -6,7 +6,7 @@ use Rattle.psx_board.specs.Stands.{console_bytes, told_items}
 use Rattle.psx_board.specs.View.{view_of}
 use Rattle.psxk_run.specs.Pieces.{Tells}
 use Rattle.psxk_run.proofs.GoingOn.{goes_on-same, goes_on-then, rose-since}
-use Rattle.psxk_run.proofs.Runs.{reached-start, reached-on, reached-stop, reached-budget, reached-breaks, went_on}
+use Rattle.psxk_run.proofs.Runs.{made-start, made-on, made-partway, reached-start, reached-on, reached-stop, reached-budget, reached-breaks, went_on}
 use Rattle.psxk_run.proofs.steps.steps.Goals as goal
 
 pub loop-turn-init : goal.loop-turn-init
@@ -14,6 +14,7 @@ loop-turn-init g c =
     let all : c.args.budget - 0 ≡ c.args.budget = omega arith in
     record {
       reached = λ m s e. rw (all, c.requires.tty, c.requires.trace, c.requires.began) (reached-start c.args.budget (view_of c.args.board.now) m (g.H.Host.sent c.args.host.now) false s e);
+      made = λ m s. made-start m (view_of c.args.board.now) s;
       running = c.requires.running;
       taken = omega (arith, c.requires.fresh);
       on = goes_on-same g.H.Host.holds g.H.Host.load_faults g.H.Host.send_faults c.args.host.now;
@@ -37,6 +38,11 @@ returns-in-Err g c = record {
   breaks = λ m s e.
       reached-breaks (run c.args.budget m) _ (view_of c.loop-turn.board) c.loop-turn.lines.began (g.H.Host.sent c.args.host.now) (g.H.Host.sent c.loop-turn.host) (g.H.Host.sent c.tell.new.host)
       c.loop-turn.lines.tty.items c.loop-turn.lines.trace.items (c.loop-turn.invariant.reached m s e) c.in-Err.ensures.breaks;
+  partway = λ m s.
+      let d = c.loop-turn.invariant.made m s in
+      let went = went_on c.step-did.result c.in_default.not-Stopped in
+      made-partway m (c.loop-turn.turn + 1) c.args.budget (view_of c.step-did.new.self)
+      (made-on m c.loop-turn.turn (view_of c.loop-turn.board) (view_of c.step-did.new.self) c.step-did.result d (c.step-did.ensures.turns d.machine d.stands) went) (omega (arith, c.loop-turn-test.true));
   failed = rose-since _ _ _ c.loop-turn.invariant.on.sends c.in-Err.ensures.failed;
   on = goes_on-then g.H.Host.holds g.H.Host.load_faults g.H.Host.send_faults c.args.host.now c.loop-turn.host c.tell.new.host c.loop-turn.invariant.on c.tell.ensures.on;
 }
@@ -55,6 +61,7 @@ loop-turn-preserved g c =
           rw c.in_default-tell.ensures.began (reached-on (run c.args.budget m) c.args.budget c.loop-turn.turn (view_of c.loop-turn.board) new c.step-did.result c.loop-turn.lines.began c.line-line.result c.taken-count.result
           (g.H.Host.sent c.args.host.now) (g.H.Host.sent c.loop-turn.host) (g.H.Host.sent c.tell.new.host) c.loop-turn.lines.tty.items c.loop-turn.lines.trace.items c.tell.new.self.tty.items c.tell.new.self.trace.items
           c.loop-turn-test.true r (c.step-did.ensures.turns r.machine r.stands) went (c.line-line.ensures r.machine r.stands) c.taken-count.ensures told);
+      made = λ m s. let d = inv.made m s in made-on m c.loop-turn.turn (view_of c.loop-turn.board) new c.step-did.result d (c.step-did.ensures.turns d.machine d.stands) went;
       running = c.step-did.ensures.runs_on went;
       taken = omega (arith, c.step-did.ensures.counted, inv.taken);
       on = goes_on-then g.H.Host.holds g.H.Host.load_faults g.H.Host.send_faults c.args.host.now c.loop-turn.host c.tell.new.host inv.on c.tell.ensures.on;
