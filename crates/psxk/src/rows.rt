@@ -169,23 +169,49 @@ fn names_what_the_guard_bars(rt: HostRuntime) {
     stops(&rt, &[0x0000_0048], 1, b" Exception 0000000A 80010000\n");
 }
 
+// The front of a program's trace.
+fn traces<R: AllocGlobal + Abort>(rt: &R, words: &[u32], front: &[u8]) {
+    let mut host = host_with(rt, &program(rt, words));
+    assert_eq!(rt; psxk(rt.alloc(), &RUN, &mut host), 1, "{front:?}");
+    assert!(rt; host.sent(Out::Trace).starts_with(front), "{front:?}");
+}
+
 #[test]
-fn shows_the_entry_of_an_exception(rt: HostRuntime) {
-    let mut host = host_with(&rt, &program(&rt, &[0x3C03_8000, 0x8C62_0102]));
-    assert_eq!(rt; psxk(rt.alloc(), &RUN, &mut host), 1);
-    assert!(rt;
-        host.sent(Out::Trace)
-            .starts_with(b"B 38939\nE 38940 00000010 80010004 T 00000004\nS ")
+fn shows_entries_and_stops(rt: HostRuntime) {
+    traces(
+        &rt,
+        &[0x3C03_8000, 0x8C62_0102],
+        b"B 38939\nE 38940 00000010 80010004 T 00000004\nS ",
     );
-    assert!(rt;
-        host.sent(Out::Trace)
-            .ends_with(b" Exception 00000004 80010004\n")
+    traces(
+        &rt,
+        &[0x0000_000D],
+        b"B 38939\nE 38939 00000024 80010000 T 00000009\nS ",
     );
-    let mut host = host_with(&rt, &program(&rt, &[0x8C02_0000]));
-    assert_eq!(rt; psxk(rt.alloc(), &RUN, &mut host), 1);
-    assert_eq!(rt;
-        host.sent(Out::Trace),
-        b"B 38939\nS 38939 UserData 80010000 00000000\n".as_slice()
+    traces(
+        &rt,
+        &[0x2409_0031, 0x240A_00A0, 0x0140_F809, 0],
+        b"B 38939\nE 38943 00000020 000000A0 A 00000031\nS ",
+    );
+    traces(
+        &rt,
+        &[0x8C02_0000],
+        b"B 38939\nS 38939 UserData 80010000 00000000\n",
+    );
+    traces(
+        &rt,
+        &[0x0800_0020, 0],
+        b"B 38939\nS 38941 UserFetch 80000080\n",
+    );
+    traces(
+        &rt,
+        &[0x4002_6000],
+        b"B 38939\nS 38939 Protected 80010000\n",
+    );
+    traces(
+        &rt,
+        &[0x0800_4000, 0x0800_4000],
+        b"B 38939\nS 38940 SlotBranch 80010004\n",
     );
 }
 
