@@ -4,7 +4,11 @@
 
 mod file_host;
 #[cfg(test)]
-mod rows;
+mod programs;
+#[cfg(test)]
+mod refusals;
+#[cfg(test)]
+mod runs;
 #[cfg(test)]
 mod tests;
 

@@ -1,0 +1,52 @@
+//! Programs and hosts for the tests of whole runs.
+use psx_base::MemoryHost;
+use std::process::Abort;
+
+// Room for the memory and the texts of a short run.
+pub(crate) const ROOM: usize = 2_200_000;
+
+// The header of a program whose text and pc stand at 80010000h, with the words as its text.
+pub(crate) fn program<R: AllocGlobal + Abort>(rt: &R, words: &[u32]) -> Vec<u8> {
+    let mut file = vec![in rt.alloc(); 0u8; 0x800].expect(rt, "room");
+    file[..8].copy_from_slice(b"PS-X EXE");
+    file[0x10..0x14].copy_from_slice(&[0, 0, 1, 0x80]);
+    file[0x18..0x1C].copy_from_slice(&[0, 0, 1, 0x80]);
+    let size = u32::try_from(words.len())
+        .expect(rt, "size")
+        .wrapping_mul(4);
+    file[0x1C..0x20].copy_from_slice(&size.to_le_bytes());
+    for word in words {
+        file.extend_from_slice(&word.to_le_bytes())
+            .expect(rt, "room");
+    }
+    file
+}
+
+// A host that holds the file `a.exe`.
+pub(crate) fn host_with<R: AllocGlobal + Abort>(rt: &R, file: &[u8]) -> MemoryHost {
+    let mut host = MemoryHost::new(rt.alloc(), ROOM).expect(rt, "room");
+    host.put("a.exe", file).expect(rt, "put");
+    host
+}
+
+pub(crate) const RUN: [&str; 4] = ["run", "a.exe", "-", "2000000"];
+
+// `A3C(41h)`, then `A06(0)`.
+pub(crate) const HELLO: [u32; 9] = [
+    0x2404_0041,
+    0x2409_003C,
+    0x240A_00A0,
+    0x0140_F809,
+    0,
+    0x2404_0000,
+    0x2409_0006,
+    0x0140_0008,
+    0,
+];
+
+pub(crate) const HELLO_TRACE: &[u8] = b"B 38939
+E 38944 00000020 000000A0 A 0000003C
+X 38966 80010014 00000401 00000000 00000000 00000000 00000041 00000000 00000041 00000000 00000000 00000000 00000000 0000003C 000000A0 00000000 00000000 00000000 00000000 00000000 00000000 00000000 00000000 00000000 00000000 00000000 00000000 00000000 00000000 00000000 80010014 00000000 00000000 801FFF00 801FFF00 80010014
+E 38970 00000020 000000A0 A 00000006
+S 38992 Exit 00000000
+";
