@@ -2,6 +2,7 @@
 
 use crate::{Entered, Item, Regs, Trace, TraceError, line_of, stop_text};
 use psx_base::{Stop, Table};
+use std::test::Fail;
 
 const WORDS: [u32; 31] = [
     1,
@@ -119,56 +120,102 @@ fn a_return_has_all_registers(rt: HostRuntime) {
     assert!(rt; line.as_slice() == text);
 }
 
+const AT: u32 = 0x8001_0000;
+
+const RA: u32 = 0x8001_0014;
+
+// Each stop, and its text.
+const STOPS: [(Stop, &[u8]); 12] = [
+    (Stop::Exit { code: 0x17 }, b"Exit 00000017"),
+    (Stop::Budget, b"Budget"),
+    (Stop::UserFetch { at: 0x8020_0000 }, b"UserFetch 80200000"),
+    (
+        Stop::UserData { pc: AT, at: 0 },
+        b"UserData 80010000 00000000",
+    ),
+    (Stop::Protected { pc: AT }, b"Protected 80010000"),
+    (Stop::SlotBranch { pc: AT }, b"SlotBranch 80010000"),
+    (
+        Stop::Exception {
+            code: 4,
+            pc: 0x8001_0004,
+        },
+        b"Exception 00000004 80010004",
+    ),
+    (
+        Stop::Unserved {
+            table: Table::A,
+            number: 0x31,
+            ra: RA,
+        },
+        b"Unserved A 00000031 80010014",
+    ),
+    (
+        Stop::BadPointer {
+            at: 0x8020_0000,
+            ra: RA,
+        },
+        b"BadPointer 80200000 80010014",
+    ),
+    (
+        Stop::BadThread {
+            number: 0xFF00_0003,
+            ra: RA,
+        },
+        b"BadThread FF000003 80010014",
+    ),
+    (Stop::Deep { ra: RA }, b"Deep 80010014"),
+    (Stop::BadReturn { ra: RA }, b"BadReturn 80010014"),
+];
+
 #[test]
 fn a_stop_has_its_name_and_its_fields(rt: HostRuntime) {
-    let at = 0x8001_0000;
-    let ra = 0x8001_0014;
-    let texts: [(Stop, &[u8]); 12] = [
-        (Stop::Exit { code: 0x17 }, b"Exit 00000017"),
-        (Stop::Budget, b"Budget"),
-        (Stop::UserFetch { at: 0x8020_0000 }, b"UserFetch 80200000"),
-        (
-            Stop::UserData { pc: at, at: 0 },
-            b"UserData 80010000 00000000",
-        ),
-        (Stop::Protected { pc: at }, b"Protected 80010000"),
-        (Stop::SlotBranch { pc: at }, b"SlotBranch 80010000"),
-        (
-            Stop::Exception {
-                code: 4,
-                pc: 0x8001_0004,
-            },
-            b"Exception 00000004 80010004",
-        ),
-        (
-            Stop::Unserved {
-                table: Table::A,
-                number: 0x31,
-                ra,
-            },
-            b"Unserved A 00000031 80010014",
-        ),
-        (
-            Stop::BadPointer {
-                at: 0x8020_0000,
-                ra,
-            },
-            b"BadPointer 80200000 80010014",
-        ),
-        (
-            Stop::BadThread {
-                number: 0xFF00_0003,
-                ra,
-            },
-            b"BadThread FF000003 80010014",
-        ),
-        (Stop::Deep { ra }, b"Deep 80010014"),
-        (Stop::BadReturn { ra }, b"BadReturn 80010014"),
-    ];
-    for (stop, text) in texts {
+    for (stop, text) in STOPS {
         let written = stop_text(stop);
         assert!(rt; written.as_slice() == text);
     }
+}
+
+#[test]
+fn each_item_and_each_stop_is_read_back(rt: HostRuntime) -> Result<(), Fail> {
+    let mut items = Vec::new(rt.alloc());
+    items.push(Item::B { count: 1 })?;
+    items.push(Item::E {
+        count: 2,
+        cause: 0x20,
+        epc: 0xA0,
+        gate: Entered::C,
+        number: 0x3C,
+    })?;
+    items.push(Item::R {
+        count: 3,
+        at: 0x1F80_1070,
+        value: 1,
+    })?;
+    items.push(Item::W {
+        count: 4,
+        at: 0x1F80_1074,
+        value: 0xFFFF_FFFE,
+    })?;
+    items.push(Item::X {
+        count: 5,
+        pc: AT,
+        sr: 0x401,
+        hi: 0xABCD,
+        lo: 0xEF,
+        regs: Regs(WORDS),
+    })?;
+    for (stop, _) in STOPS {
+        items.push(Item::S { count: 6, stop })?;
+    }
+    let mut text = Vec::new(rt.alloc());
+    for item in items.iter() {
+        text.extend_from_slice(line_of(*item).as_slice())?;
+    }
+    assert!(rt; text.len() < 1_000);
+    let read = Trace::read(rt.alloc(), &text);
+    assert!(rt; matches!(&read, Ok(read) if read.as_slice() == items.as_slice()));
+    Ok(())
 }
 
 #[test]

@@ -8,8 +8,8 @@ use arrayvec::ArrayVec;
 /// The bytes of a line. The longest line has 338.
 pub type TraceLine = ArrayVec<u8, 384>;
 
-// Appends bytes for which there is room.
-pub(crate) fn put<const N: usize>(text: &mut ArrayVec<u8, N>, bytes: &[u8])
+/// Appends bytes for which there is room.
+pub fn put<const N: usize>(text: &mut ArrayVec<u8, N>, bytes: &[u8])
     requires { array_vec_len text.old + length bytes.now ≤ N }
     ensures items { text.new.items ≡ text.old.items ++ bytes.now }
     ensures len { array_vec_len text.new ≡ array_vec_len text.old + length bytes.now }
@@ -31,9 +31,9 @@ fn digit_of(digit: u32) -> u8
     }
 }
 
-// Appends a space and a word in eight hexadecimal digits.
+/// Appends a space and a word in eight hexadecimal digits with capitals.
 #[tactic(auto, unfolding(crate::specs::Digits::hex8))]
-pub(crate) fn put_field<const N: usize>(text: &mut ArrayVec<u8, N>, word: u32)
+pub fn put_field<const N: usize>(text: &mut ArrayVec<u8, N>, word: u32)
     requires { array_vec_len text.old + 9 ≤ N }
     ensures items { text.new.items ≡ text.old.items ++ field word }
     ensures len { array_vec_len text.new ≡ array_vec_len text.old + 9 }

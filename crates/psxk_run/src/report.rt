@@ -1,7 +1,7 @@
 //! The lines that are reported. They take no memory.
 ghost use Rattle.std.specs.Prelude.{◌≡◌, ◌≤◌, ◌<◌, ◌+◌, ◌^◌, ℕ, [], ◌∷◌, ◌++◌, length, decimal, codes};
 ghost use Rattle.arrayvec.specs.ArrayVec.{array_vec_len};
-ghost use Rattle.psx_trace.specs.Digits.{hex_digit, hex8, field};
+ghost use Rattle.psx_trace.specs.Digits.{field};
 ghost use Rattle.psx_trace.specs.StopText.{stop_text};
 ghost use Rattle.psxk_run.specs.Reports.{exe_error_text, exe_line, stop_line};
 
@@ -10,55 +10,10 @@ use itoa::Buffer;
 use psx_base::Stop;
 use psx_exe::ExeError;
 use psx_trace::stop_text;
+use psx_trace::text::{put, put_field};
 
 /// The bytes of a line.
 pub type ReportLine = ArrayVec<u8, 80>;
-
-// Appends bytes for which there is room.
-fn put(line: &mut ReportLine, bytes: &[u8])
-    requires { array_vec_len line.old + length bytes.now ≤ 80 }
-    ensures items { line.new.items ≡ line.old.items ++ bytes.now }
-    ensures len { array_vec_len line.new ≡ array_vec_len line.old + length bytes.now }
-{
-    if line.try_extend_from_slice(bytes).is_err() {
-        unreachable!();
-    }
-}
-
-// A digit below 16, with capitals.
-fn digit_of(digit: u32) -> u8
-    requires { digit < 16 }
-    ensures { result ≡ hex_digit digit }
-{
-    if digit < 10 {
-        b'0' + digit as u8
-    } else {
-        b'A' - 10 + digit as u8
-    }
-}
-
-// Appends a space and a word in eight hexadecimal digits.
-#[tactic(auto, unfolding(psx_trace::specs::Digits::hex8))]
-fn put_field(line: &mut ReportLine, word: u32)
-    requires { array_vec_len line.old + 9 ≤ 80 }
-    ensures items { line.new.items ≡ line.old.items ++ field word }
-    ensures len { array_vec_len line.new ≡ array_vec_len line.old + 9 }
-{
-    put(
-        line,
-        &[
-            b' ',
-            digit_of(word / 0x1000_0000),
-            digit_of(word / 0x100_0000 % 16),
-            digit_of(word / 0x10_0000 % 16),
-            digit_of(word / 0x1_0000 % 16),
-            digit_of(word / 0x1000 % 16),
-            digit_of(word / 0x100 % 16),
-            digit_of(word / 0x10 % 16),
-            digit_of(word % 16),
-        ],
-    );
-}
 
 // A name alone.
 fn named(name: &[u8]) -> ReportLine
