@@ -3,62 +3,31 @@ use Rattle.std.proofs.Common.{◌≡◌, ℕ, ◌+◌, ◌%◌, ◌^◌, Bool, t
 use Rattle.std.specs.Prelude.{nat_eq, if◌then◌else◌}
 use Rattle.psx_base.specs.declared.ports.TheConstants.{CONSOLE_DATA, HALT, HALT_A, HALT_B, HALT_C}
 use Rattle.psx_base.specs.declared.stop.Stop.{Stop}
+use Rattle.psx_base.specs.Items.{R}
+use Rattle.psx_sched.specs.declared.schedule.Entry.{Entry}
 use Rattle.psx_cpu.specs.declared.step.Did.{Did}
 use Rattle.psx_cpu.specs.declared.step.Did.TheVariants.{Plain, PortRead, PortWrite, Entered, Left, Stopped}
-use Rattle.psx_cpu.specs.Processor.{Core}
-use Rattle.psx_cpu.specs.Step.{Move, Goes, Reads, Writes, Enters, Leaves, Stops, Does}
+use Rattle.psx_cpu.specs.Processor.{Core, Bus}
+use Rattle.psx_cpu.specs.Step.{Move, Goes, Reads, Writes, Enters, Leaves, Stops, Does, port_read, step}
 use Rattle.psx_ports.specs.declared.PortDid.{PortDid}
 use Rattle.psx_ports.specs.declared.PortDid.TheVariants.{Quiet, Tty, Halt}
-use Rattle.psx_ports.specs.History.{History, Write, line, then_access, halted, written, last_written}
+use Rattle.psx_ports.specs.History.{History, Read, Write, line, then_event, at_count, halted, written, last_written}
 use Rattle.psx_ports.specs.HaltCodes.{halt_stop}
-use Rattle.psx_ports.specs.Stands.{StandsFor}
 use Rattle.psx_board.specs.Machine.{Machine}
-use Rattle.psx_board.specs.Turn.{Turn, On, Ends, after_read, after_write, by_move, shown}
+use Rattle.psx_board.specs.Delivery.{due, later, all_arrived, delivered}
+use Rattle.psx_board.specs.Turn.{Turn, On, Ends, after_write, accessed, moved, by_move, shown, asked, answered, bus_of, stepped, turn}
 use Rattle.psx_board.specs.Entries.{entry, return}
-use Rattle.psx_base.specs.Items.{R}
-use Rattle.psx_board.specs.Stands.{View, Turned, console_bytes}
+use Rattle.psx_board.specs.Devices.{Kept, Carries}
+use Rattle.psx_board.specs.Finished.{Counted, Wrote, Finished, after_read, stop_of}
+use Rattle.psx_board.specs.Stands.{View, Stands, Turned, TurnedBy, console_bytes}
+use Rattle.psx_board.proofs.Again.{all_arrived-now, arrived-again, later-again}
 
--- neither a write to a port nor a stop
-abbrev pub IsQuiet : Did → Type 0
-IsQuiet (PortWrite at value) = ⊥
-IsQuiet (Stopped stop) = ⊥
-IsQuiet _ = Unit {0}
+-- the board behind a counted step
+pub stands-moved : (m : Machine) (next core : Core) (new : View) → new.core ≡ next → new.taken ≡ new.devices.count → Counted new.devices m.history m.waiting → Stands new (moved m next)
+stands-moved m next core new k t d = record { core = k; devices = d; taken = t ∙ d.counted ∙ all_arrived-now (at_count m.history (m.history.now + 1)) (due (m.history.now + 1) m.waiting) }
 
--- a step without a write to a port, counted
-pub turned-quiet : (m : Machine) (move : Move) (did : Did) (new : View) → Does m.core move did new.core → IsQuiet did
-    → StandsFor new.ports m.history → new.taken ≡ m.taken + 1 → new.stopped ≡ None → Turned m (by_move m move) did new
-turned-quiet m move (PortWrite at value) new h q p t s = absurd q
-turned-quiet m move (Stopped stop) new h q p t s = absurd q
-turned-quiet m (Goes next) Plain new h q p t s = record { went_on = tt; items = refl; tty = refl; began = refl; stands = record { core = h; ports = p; taken = t }; stopped = s }
-turned-quiet m (Reads next at value) (PortRead at' value') new h q p t s = record { went_on = tt; items = λ i. shown m.began (R m.taken (sym h.1.0 i) (sym h.1.1 i)); tty = refl; began = refl; stands = record { core = h.0; ports = p; taken = t }; stopped = s }
-turned-quiet m (Enters next code) (Entered code') new h q p t s = record { went_on = tt; items = λ i. shown m.began (entry m.taken (sym h.1 i) (line m.history) (sym h.0 i)); tty = refl; began = refl; stands = record { core = h.0; ports = p; taken = t }; stopped = s }
-turned-quiet m (Leaves next) Left new h q p t s = record { went_on = tt; items = λ i. return m.taken m.began (sym h i) ∷ []; tty = refl; began = refl; stands = record { core = h; ports = p; taken = t }; stopped = s }
-turned-quiet m _ _ new h q p t s = absurd h
+-- ---- the byte that a write makes
 
--- a stop of the guard
-pub turned-stop : (m : Machine) (move : Move) (stop : Stop) (core : Core) (new : View) → Does m.core move (Stopped stop) core → new.core ≡ core
-    → StandsFor new.ports m.history → new.taken ≡ m.taken → new.stopped ≡ Some stop → Turned m (by_move m move) (Stopped stop) new
-turned-stop m (Stops stop') stop core new h c p t s = record { told = ap Stopped h.1; stands = record { core = c ∙ h.0; ports = p; taken = t }; stopped = s ∙ ap Some h.1 }
-turned-stop m _ stop core new h c p t s = absurd h
-
--- a write to a port
-pub turned-write : (m : Machine) (move : Move) (at value : ℕ) (core : Core) (did : Did) (new : View) → Does m.core move (PortWrite at value) core
-    → ((k : Core) → core ≡ k → Turned (record m { core = k }) (after_write (record m { core = k }) at value (written m.history at value)) did new) → Turned m (by_move m move) did new
-turned-write m (Writes next at' value') at value core did new h done =
-    let P : ℕ → ℕ → Type 0 = λ a v. Turned (record m { core = next }) (after_write (record m { core = next }) a v (written m.history a v)) did new in
-    subst (λ (a : ℕ). P a value') h.1.0 (subst (λ (v : ℕ). P at v) h.1.1 (done next h.0))
-turned-write m _ at value core did new h done = absurd h
-
--- the access that was read before a step changes nothing of what the step tells
-pub turned-read : (m : Machine) (o : Option ℕ) (t : Turn) (did : Did) (new : View) → Turned (after_read m o) t did new → Turned m t did new
-turned-read m None t did new h = h
-turned-read m (Some at) (On next items tty) did new h =
-    record { went_on = h.went_on; items = h.items; tty = h.tty; began = h.began; stands = h.stands; stopped = h.stopped }
-turned-read m (Some at) (Ends last stop) did new h = record { told = h.told; stands = h.stands; stopped = h.stopped }
-
--- ---- what a write makes
-
--- the byte that it writes to the console
 abbrev tty_of : PortDid → List ℕ
 tty_of Quiet = []
 tty_of (Tty byte) = byte ∷ []
@@ -75,26 +44,91 @@ first false byte rest silent = silent
 
 console : (h : History) (at value : ℕ) → tty_of (written h at value) ≡ console_bytes (PortWrite at value)
 console h at value =
-    first (nat_eq at CONSOLE_DATA) (value % 2 ^ 8) _ (halt-silent (nat_eq at HALT) (halt_stop value (last_written h.accesses HALT_A) (last_written h.accesses HALT_B) (last_written h.accesses HALT_C)))
+    first (nat_eq at CONSOLE_DATA) (value % 2 ^ 8) _ (halt-silent (nat_eq at HALT) (halt_stop value (last_written h.events HALT_A) (last_written h.events HALT_B) (last_written h.events HALT_C)))
 
--- the board after a write that was counted stands for the machine with the access
-pub record Counts (m : Machine) (at value : ℕ) (new : View) : Type 0 where
-  pub core : new.core ≡ m.core
-  pub ports : StandsFor new.ports (then_access m.history (Write m.taken at value))
-  pub taken : new.taken ≡ m.taken + 1
+-- ---- a step, by what the processor did
 
-went : (m : Machine) (at value : ℕ) (told : PortDid) (new : View) → tty_of told ≡ console_bytes (PortWrite at value) → Counts m at value new → new.stopped ≡ None
-    → ((stop : Stop) → told ≡ Halt stop → ⊥) → Turned m (after_write m at value told) (PortWrite at value) new
-went m at value Quiet new tty c s never = record { went_on = tt; items = refl; tty = tty; began = refl; stands = record { core = c.core; ports = c.ports; taken = c.taken }; stopped = s }
-went m at value (Tty byte) new tty c s never = record { went_on = tt; items = refl; tty = tty; began = refl; stands = record { core = c.core; ports = c.ports; taken = c.taken }; stopped = s }
-went m at value (Halt stop) new tty c s never = absurd (never stop refl)
+module _ (m : Machine) (new : View) (taken : new.taken ≡ new.devices.count) where
+  abbrev Is : Turn → Did → Type 0
+  Is turn told = TurnedBy m.began (line m.history) m.history.now turn told new
 
-pub after-went : (m : Machine) (at value : ℕ) (new : View) → Counts m at value new → new.stopped ≡ None → ((stop : Stop) → written m.history at value ≡ Halt stop → ⊥)
-    → Turned m (after_write m at value (written m.history at value)) (PortWrite at value) new
-after-went m at value new c s never = went m at value (written m.history at value) new (console m.history at value) c s never
+  -- a write, by what it did
+  after-write : (at value : ℕ) (next : Core) (port : PortDid) (told : Did) → tty_of port ≡ console_bytes (PortWrite at value) → new.core ≡ next → new.stopped ≡ stop_of told
+      → Wrote m.history m.waiting at value port told new.devices → Is (after_write m at value port (moved (accessed m (Write m.history.now at value)) next)) told
+  after-write at value next Quiet told tty k s w =
+      subst (λ t. new.stopped ≡ stop_of t → Is (after_write m at value Quiet (moved (accessed m (Write m.history.now at value)) next)) t) (sym w.0)
+      (λ stopped. record { went_on = tt; items = refl; tty = tty; stands = stands-moved (accessed m (Write m.history.now at value)) next next new k taken w.1; began = refl; stopped = stopped }) s
+  after-write at value next (Tty byte) told tty k s w =
+      subst (λ t. new.stopped ≡ stop_of t → Is (after_write m at value (Tty byte) (moved (accessed m (Write m.history.now at value)) next)) t) (sym w.0)
+      (λ stopped. record { went_on = tt; items = refl; tty = tty; stands = stands-moved (accessed m (Write m.history.now at value)) next next new k taken w.1; began = refl; stopped = stopped }) s
+  after-write at value next (Halt stop) told tty k s w =
+      record { told = w.0; stands = stands-moved (accessed m (Write m.history.now at value)) next next new k taken w.1; stopped = s ∙ ap stop_of w.0 }
 
-pub after-halt : (m : Machine) (at value : ℕ) (stop : Stop) (new : View) → Counts m at value new → new.stopped ≡ Some stop → written m.history at value ≡ Halt stop
-    → Turned m (after_write m at value (written m.history at value)) (Stopped stop) new
-after-halt m at value stop new c s is =
-    let P : PortDid → Type 0 = λ d. Turned m (after_write m at value d) (Stopped stop) new in
-    subst P (sym is) (record { told = refl; stands = record { core = c.core; ports = c.ports; taken = c.taken }; stopped = s })
+  -- a step without a write and without a stop
+  counted : (did told : Did) (t : Turn) → told ≡ did → new.stopped ≡ stop_of told → (new.stopped ≡ stop_of did → Is t did) → Is t told
+  counted did told t is s made = subst (λ d. new.stopped ≡ stop_of d → Is t d) (sym is) made s
+
+  pub turned : (move : Move) (did told : Did) → Does m.core move did new.core → new.stopped ≡ stop_of told → (new.core ≡ m.core → Carries new.devices m.history m.waiting → Stands new m)
+      → Finished (after_read m.history (port_read move)) m.waiting did told new.devices → Is (by_move m move) told
+  turned (Goes next) Plain told does s again f =
+      counted Plain told (by_move m (Goes next)) f.0 s (λ stopped. record { went_on = tt; items = refl; tty = refl; stands = stands-moved m next next new does taken f.1; began = refl; stopped = stopped })
+  turned (Reads next at value) (PortRead at' value') told does s again f =
+      counted (PortRead at' value') told (by_move m (Reads next at value)) f.0 s (λ stopped. record {
+        went_on = tt;
+        items = λ i. shown m.began (R m.history.now (sym does.1.0 i) (sym does.1.1 i));
+        tty = refl;
+        stands = stands-moved (accessed m (Read m.history.now at)) next next new does.0 taken f.1;
+        began = refl;
+        stopped = stopped;
+      })
+  turned (Enters next code) (Entered code') told does s again f =
+      counted (Entered code') told (by_move m (Enters next code)) f.0 s (λ stopped. record {
+        went_on = tt;
+        items = λ i. shown m.began (entry m.history.now (sym does.1 i) (line m.history) (sym does.0 i));
+        tty = refl;
+        stands = stands-moved m next next new does.0 taken f.1;
+        began = refl;
+        stopped = stopped;
+      })
+  turned (Leaves next) Left told does s again f =
+      counted Left told (by_move m (Leaves next)) f.0 s (λ stopped. record {
+        went_on = tt;
+        items = λ i. return m.history.now m.began (sym does i) ∷ [];
+        tty = refl;
+        stands = let moved_on = stands-moved m next next new does taken f.1 in record { core = moved_on.core; devices = moved_on.devices; taken = moved_on.taken };
+        began = refl;
+        stopped = stopped;
+      })
+  turned (Writes next at value) (PortWrite at' value') told does s again f =
+      let W : ℕ → ℕ → Type 0 = λ a v. Wrote m.history m.waiting a v (written m.history a v) told new.devices in
+      after-write at value next (written m.history at value) told (console m.history at value) does.0 s (subst (λ (v : ℕ). W at v) does.1.1 (subst (λ (a : ℕ). W a value') does.1.0 f))
+  turned (Stops stop) (Stopped stop') told does s again f = record { told = f.0 ∙ ap Stopped does.1; stands = again does.0 f.1; stopped = s ∙ ap stop_of (f.0 ∙ ap Stopped does.1) }
+  turned _ _ told does s again f = absurd does
+
+-- a board whose devices are as they were stands for the machine with what is due delivered
+again : (m : Machine) (new : View) → new.taken ≡ new.devices.count → new.core ≡ m.core → Carries new.devices (delivered m).history (delivered m).waiting → Stands new (delivered m)
+again m new taken core c =
+    let d = delivered m in
+    let now : d.history.now ≡ m.history.now = all_arrived-now m.history (due m.history.now m.waiting) in
+    record {
+      core = core;
+      devices = subst (λ (h : History). Carries new.devices h (delivered d).waiting) (sym (arrived-again m.history.now d.history m.waiting now))
+      (subst (λ (es : List Entry). Carries new.devices d.history es) (sym (later-again m.history.now d.history.now m.waiting now)) c);
+      taken = taken ∙ c.counted;
+    }
+
+as_turn : (m : Machine) (told : Did) (new : View) → TurnedBy m.began (line (delivered m).history) (delivered m).history.now (stepped (delivered m)) told new → Turned m (turn m) told new
+unfolding turn
+as_turn m told new t = subst (λ (n : ℕ). TurnedBy m.began (line (delivered m).history) n (stepped (delivered m)) told new) (all_arrived-now m.history (due m.history.now m.waiting)) t
+
+-- the code's step, from its parts
+pub turned-step : (m : Machine) (new : View) (k : Core) (l : Bool) (value : ℕ) (did told : Did) → k ≡ m.core → l ≡ line (delivered m).history → value ≡ answered (delivered m).history (asked (delivered m))
+    → Does k (step k (record { line = l; value = value })) did new.core → port_read (step m.core (bus_of (delivered m))) ≡ asked (delivered m)
+    → Finished (after_read (delivered m).history (asked (delivered m))) (delivered m).waiting did told new.devices → new.taken ≡ new.devices.count → new.stopped ≡ stop_of told → Turned m (turn m) told new
+turned-step m new k l value did told core is_line answer does reads f taken stopped =
+    let d = delivered m in
+    let bus : (record { line = l; value = value }) ≡ bus_of d = (λ i. record { line = is_line i; value = answer i }) in
+    let by_bus : Does k (step k (bus_of d)) did new.core = subst (λ (u : Bus). Does k (step k u) did new.core) bus does in
+    let by_core : Does m.core (step m.core (bus_of d)) did new.core = subst (λ (x : Core). Does x (step x (bus_of d)) did new.core) core by_bus in
+    let finished : Finished (after_read d.history (port_read (step m.core (bus_of d)))) d.waiting did told new.devices = subst (λ (o : Option ℕ). Finished (after_read d.history o) d.waiting did told new.devices) (sym reads) f in
+    as_turn m told new (turned d new taken (step m.core (bus_of d)) did told by_core stopped (again m new taken) finished)

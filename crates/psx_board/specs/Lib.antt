@@ -1,6 +1,9 @@
 pub mod Machine
+pub mod Delivery
 pub mod Entries
 pub mod Turn
 pub mod Run
+pub mod Devices
+pub mod Finished
 pub mod Stands
-pub mod View
+pub mod SoFar

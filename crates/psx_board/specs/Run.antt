@@ -4,6 +4,7 @@ use Rattle.psx_base.specs.declared.stop.Stop.{Stop}
 use Rattle.psx_base.specs.declared.stop.Stop.TheVariants.{Budget}
 use Rattle.psx_base.specs.declared.stop.Sizes.{Sizes}
 use Rattle.psx_base.specs.Items.{Item, S}
+use Rattle.psx_sched.specs.declared.schedule.Entry.{Entry}
 use Rattle.psx_exe.specs.declared.exe.Exe.{Exe}
 use Rattle.psx_board.specs.Machine.{Machine, start}
 use Rattle.psx_board.specs.Turn.{Turn, On, Ends, turn}
@@ -20,7 +21,7 @@ abbrev pub behind : List Item → List ℕ → Outcome → Outcome
 behind items tty o = record { items = items ++ o.items; tty = tty ++ o.tty; stop = o.stop; last = o.last }
 
 abbrev pub ended : Machine → Stop → Outcome
-ended m stop = record { items = S m.taken stop ∷ []; tty = []; stop = stop; last = m }
+ended m stop = record { items = S m.history.now stop ∷ []; tty = []; stop = stop; last = m }
 
 -- a run that goes on by rest, where its first step goes on
 abbrev pub then_run : Turn → (Machine → Outcome) → Outcome
@@ -33,5 +34,5 @@ run zero m = ended m Budget
 run (suc n) m = then_run (turn m) (run n)
 
 -- the board's run from reset
-abbrev pub board_run : List ℕ → Exe → Sizes → ℕ → Outcome
-board_run rom exe sizes n = run n (start rom exe sizes)
+abbrev pub board_run : List ℕ → Exe → Sizes → List Entry → ℕ → Outcome
+board_run rom exe sizes schedule n = run n (start rom exe sizes schedule)

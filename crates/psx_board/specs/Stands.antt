@@ -6,23 +6,32 @@ use Rattle.psx_base.specs.Items.{Item, R}
 use Rattle.psx_cpu.specs.declared.step.Did.{Did}
 use Rattle.psx_cpu.specs.declared.step.Did.TheVariants.{Plain, PortRead, PortWrite, Entered, Left, Stopped}
 use Rattle.psx_cpu.specs.Processor.{Core}
-use Rattle.psx_ports.specs.History.{line}
-use Rattle.psx_ports.specs.Stands.{Kept, StandsFor}
 use Rattle.psx_board.specs.Machine.{Machine}
+use Rattle.psx_board.specs.Delivery.{delivered, line}
+use Rattle.psx_board.specs.Devices.{Kept, Carries}
 use Rattle.psx_board.specs.Entries.{entry, return}
 use Rattle.psx_board.specs.Turn.{Turn, On, Ends, shown, write_shown}
 
--- what a board keeps
+-- what a board keeps; taken is the count of its devices
 pub record View : Type 0 where
   pub core : Core
-  pub ports : Kept
+  pub devices : Kept
   pub taken : ℕ
   pub stopped : Option Stop
 
+-- before the first step is finished nothing has stopped, and the processor is on the kernel's side as at reset
+pub record IsFresh (b : View) : Type 0 where
+  pub stopped : b.stopped ≡ None
+  pub latch : b.core.processor.latch ≡ true
+
+abbrev pub IsSound : View → Type 0
+IsSound b = b.taken ≡ 0 → IsFresh b
+
+-- the devices are those of the coming step, which has its entries
 pub record Stands (b : View) (m : Machine) : Type 0 where
   pub core : b.core ≡ m.core
-  pub ports : StandsFor b.ports m.history
-  pub taken : b.taken ≡ m.taken
+  pub devices : Carries b.devices (delivered m).history (delivered m).waiting
+  pub taken : b.taken ≡ m.history.now
 
 -- the console byte that a step wrote
 abbrev pub console_bytes : Did → List ℕ
@@ -48,14 +57,18 @@ abbrev pub begun : Bool → Did → Bool
 begun began Left = true
 begun began _ = began
 
--- what a step told and left is what the turn of a machine is
-abbrev pub Turned : Machine → Turn → Did → View → Type 0
-Turned m (On next items tty) did new = record {
+-- what a step told and left is a turn, with the interrupt line and the count before it
+abbrev pub TurnedBy : Bool → Bool → ℕ → Turn → Did → View → Type 0
+TurnedBy began line count (On next items tty) did new = record {
   went_on : WentOn did;
-  items : items ≡ told_items m.began (line m.history) m.taken did new.core;
+  items : items ≡ told_items began line count did new.core;
   tty : tty ≡ console_bytes did;
   stands : Stands new next;
-  began : next.began ≡ begun m.began did;
+  began : next.began ≡ begun began did;
   stopped : new.stopped ≡ None;
 }
-Turned m (Ends last stop) did new = record { told : did ≡ Stopped stop; stands : Stands new last; stopped : new.stopped ≡ Some stop }
+TurnedBy began line count (Ends last stop) did new = record { told : did ≡ Stopped stop; stands : Stands new last; stopped : new.stopped ≡ Some stop }
+
+-- the same of a machine
+abbrev pub Turned : Machine → Turn → Did → View → Type 0
+Turned m turn did new = TurnedBy m.began (line m) m.history.now turn did new

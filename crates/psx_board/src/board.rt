@@ -1,5 +1,5 @@
 //! The board and its steps.
-ghost use Rattle.std.specs.Prelude.{◌≡◌, ℕ, ◌+◌, ◌-◌, ◌^◌, ◌<◌, ◌≤◌, [], length, replicate, Some, None, IfOk, IsTrue};
+ghost use Rattle.std.specs.Prelude.{◌≡◌, ℕ, ◌+◌, ◌-◌, ◌^◌, ◌<◌, ◌≤◌, [], length, replicate, Some, None, IfOk, IsTrue, List};
 ghost use Rattle.psx_base.specs.Addresses;
 ghost use Rattle.psx_base.specs.FirstBad.{first_bad_of};
 ghost use Rattle.psx_base.specs.Memory.{put_bytes};
@@ -7,14 +7,20 @@ ghost use Rattle.psx_base.specs.PortAddresses.{port};
 ghost use Rattle.psx_exe.specs.Placed;
 ghost use Rattle.psx_exe.specs.Placed.{placed};
 ghost use Rattle.psx_exe.specs.Reading.{IsReadable};
-ghost use Rattle.psx_board.specs.Machine.{Machine, start};
-ghost use Rattle.psx_board.specs.View.{view_of};
-ghost use Rattle.psx_board.specs.Turn.{turn, asked, answered, after_read, after_write, by_move};
-ghost use Rattle.psx_board.specs.Stands.{Stands, Turned, WentOn};
+ghost use Rattle.psx_cpu.specs.Step.{step, port_read, IsPortDid};
+ghost use Rattle.psx_cpu.specs.Views.{core_of};
+ghost use Rattle.psx_sched.specs.declared.schedule.Entry.{Entry};
 ghost use Rattle.psx_ports.specs.History;
 ghost use Rattle.psx_ports.specs.History.{written};
-ghost use Rattle.psx_ports.specs.Stands.{StandsFor};
-ghost use Rattle.psx_cpu.specs.Step.{Move, Does, IsPortDid};
+ghost use Rattle.psx_board.specs.Machine.{Machine, start};
+ghost use Rattle.psx_board.specs.Delivery;
+ghost use Rattle.psx_board.specs.Turn.{turn, asked, answered};
+ghost use Rattle.psx_board.specs.Devices.{Carries};
+ghost use Rattle.psx_board.specs.Finished.{Counted, Wrote, Finished, finished, after_read, stop_of};
+ghost use Rattle.psx_board.specs.Stands.{Stands, Turned, WentOn};
+ghost use Rattle.psx_board.specs.SoFar.{StandsAfter};
+
+use crate::devices::Devices;
 
 use psx_base::{Addr, Memory, Sizes, Stop};
 use psx_cpu::{BusAnswer, Cpu, Did};
@@ -23,16 +29,31 @@ use psx_ports::{PortDid, Ports};
 use psx_ram::Ram;
 use psx_sched::Schedule;
 use std::alloc::Global;
+use std::marker::Model;
 
 /// A board. It keeps no history; contracts say for which machine it stands.
 #[derive(Drop)]
 pub struct Board {
     cpu: Cpu,
     ram: Ram,
-    ports: Ports,
-    schedule: Schedule,
-    taken: u64,
+    devices: Devices,
     stopped: Option<Stop>,
+}
+
+impl Model for Board {
+    ghost use Rattle.std.specs.Coded.{codes};
+    ghost use Rattle.psx_base.specs.Memory.{memory_code};
+    ghost use Rattle.psx_cpu.specs.Views.{core_of};
+    ghost use Rattle.psx_board.specs.Stands.{View, IsSound};
+
+    ghost Value = { View };
+
+    ghost coded = { Prim.hlevel (codes, memory_code) };
+
+    ghost view = { λ b. record { core = core_of b.cpu b.ram; devices = b.devices; taken = b.devices.count; stopped = b.stopped } };
+
+    // No step has been finished before the first exception is left.
+    ghost invariant = { λ b. IsSound (record { core = core_of b.cpu b.ram; devices = b.devices; taken = b.devices.count; stopped = b.stopped }) };
 }
 
 // The physical address, or 2^29 where there is none.
@@ -87,11 +108,86 @@ fn stack_top(exe: &Exe) -> u32
     }
 }
 
+// What the port that the coming step reads answers, and 0 where it reads none.
+#[inline]
+fn ask(cpu: &Cpu, ram: &Ram, devices: &mut Devices, line: bool) -> u32
+    ensures same { (m : Machine) (value : ℕ) → core_of cpu.now ram.now ≡ m.core → line ≡ History.line m.history → port_read (step m.core (record { line = History.line m.history; value = value })) ≡ asked m }
+    ensures value { (m : Machine) → core_of cpu.now ram.now ≡ m.core → line ≡ History.line m.history → Carries devices.old m.history m.waiting → result ≡ answered m.history (asked m) }
+    ensures carries { (m : Machine) → core_of cpu.now ram.now ≡ m.core → line ≡ History.line m.history → Carries devices.old m.history m.waiting → Carries devices.new (after_read m.history (asked m)) m.waiting }
+    ensures counted { devices.new.count ≡ devices.old.count }
+{
+    match cpu.peek_port(ram, line) {
+        Some(read) => devices.read(read.at),
+        None => 0,
+    }
+}
+
+// Ends a step that wrote to a port, and tells what it did.
+fn finish_write(devices: &mut Devices, at: u32, value: u32) -> Did
+    requires room { devices.old.count < 2 ^ 64 - 1 }
+    requires port { IsTrue (port at) }
+    ensures ended { (h : History.History) (waiting : List Entry) → Carries devices.old h waiting → Wrote h waiting at value (written h at value) result devices.new }
+    ensures counted { devices.new.count ≡ devices.old.count + 1 }
+{
+    let told = devices.write(at, value);
+    devices.advance();
+    match told {
+        PortDid::Halt(stop) => Did::Stopped(stop),
+        PortDid::Quiet => Did::PortWrite { at, value },
+        PortDid::Tty(_) => Did::PortWrite { at, value },
+    }
+}
+
+// Counts a step that did this.
+#[inline]
+fn count(devices: &mut Devices, did: Did) -> Did
+    requires { devices.old.count < 2 ^ 64 - 1 }
+    ensures told { result ≡ did }
+    ensures ended { (h : History.History) (waiting : List Entry) → Carries devices.old h waiting → Counted devices.new h waiting }
+    ensures counted { devices.new.count ≡ devices.old.count + 1 }
+{
+    devices.advance();
+    did
+}
+
+// Ends a step by what the processor did, and tells what the step did.
+#[inline]
+fn finish(devices: &mut Devices, did: Did) -> Did
+    requires room { devices.old.count < 2 ^ 64 - 1 }
+    requires port { IsPortDid did }
+    ensures ended { (h : History.History) (waiting : List Entry) → Carries devices.old h waiting → Finished h waiting did result devices.new }
+    ensures counted { devices.new.count ≡ devices.old.count + finished did }
+{
+    match did {
+        Did::PortWrite { at, value } => finish_write(devices, at, value),
+        Did::Stopped(_) => did,
+        Did::Plain => count(devices, did),
+        Did::PortRead { .. } => count(devices, did),
+        Did::Entered { .. } => count(devices, did),
+        Did::Left => count(devices, did),
+    }
+}
+
+// The stop that a step told.
+#[inline]
+fn stop_of(did: Did) -> Option<Stop>
+    ensures { result ≡ stop_of did }
+{
+    match did {
+        Did::Stopped(stop) => Some(stop),
+        Did::Plain => None,
+        Did::PortRead { .. } => None,
+        Did::PortWrite { .. } => None,
+        Did::Entered { .. } => None,
+        Did::Left => None,
+    }
+}
+
 impl Board {
     /// A board at reset, with a program placed in its memory: the text, and then zeros in its fill. It takes all memory that the board ever needs, or gives Memory for want of it.
     ///
     /// The ROM's 80000h bytes stand at 1FC00000h, where the first instruction is fetched (PSX-SPX, Memory Map). The start ports answer with the program's pc, gp and stack,
-    /// and with the sizes: 4 to 16 threads and 16 to 64 events. A schedule with entries isn't taken yet.
+    /// and with the sizes: 4 to 16 threads and 16 to 64 events. The entries of the schedule reach the ports at their counts. A refusal drops the schedule.
     pub fn new(
         alloc: Global,
         rom: &[u8],
@@ -101,11 +197,10 @@ impl Board {
     ) -> Result<Board, Memory>
         requires rom { length rom.now ≡ 0x80000 }
         requires readable { IsReadable exe.now }
-        requires schedule { schedule ≡ [] }
         requires threads { (4 ≤ sizes.threads) × (sizes.threads ≤ 16) }
         requires events { (16 ≤ sizes.events) × (sizes.events ≤ 64) }
-        ensures stands { IfOk result (λ b. Stands (view_of b) (start rom.now exe.now sizes)) }
-        ensures running { IfOk result (λ b. (view_of b).stopped ≡ None) }
+        ensures stands { IfOk result (λ b. Stands b (start rom.now exe.now sizes schedule)) }
+        ensures running { IfOk result (λ b. b.stopped ≡ None) }
     {
         let mut ram = Ram::new(alloc, rom)?;
         place_program(&mut ram, exe);
@@ -113,9 +208,7 @@ impl Board {
         Ok(Board {
             cpu: Cpu::reset(),
             ram,
-            ports,
-            schedule,
-            taken: 0,
+            devices: Devices::new(ports, schedule),
             stopped: None,
         })
     }
@@ -123,15 +216,16 @@ impl Board {
     /// The number of finished steps since reset.
     #[inline]
     pub fn taken(&self) -> u64
-        ensures { result ≡ (view_of self.now).taken }
+        ensures { result ≡ self.now.taken }
     {
-        self.taken
+        self.devices.count()
     }
 
     /// What a step stopped with, if one has. A board that has stopped takes no further step.
     #[inline]
     pub fn stopped(&self) -> Option<Stop>
-        ensures { result ≡ (view_of self.now).stopped }
+        ensures stop { result ≡ self.now.stopped }
+        ensures fresh { self.now.taken ≡ 0 → result ≡ None }
     {
         self.stopped
     }
@@ -139,15 +233,15 @@ impl Board {
     /// Whether a line that isn't masked is pending, as the coming step finds it.
     #[inline]
     pub fn line(&self) -> bool
-        ensures { (m : Machine) → Stands (view_of self.now) m → result ≡ History.line m.history }
+        ensures { (m : Machine) → Stands self.now m → result ≡ Delivery.line m }
     {
-        self.ports.line()
+        self.devices.line()
     }
 
     /// The processor, as the finished steps left it.
     #[inline]
     pub fn cpu(&self) -> &Cpu
-        ensures { result.now ≡ (view_of self.now).core.processor }
+        ensures { result.now ≡ self.now.core.processor }
     {
         &self.cpu
     }
@@ -155,98 +249,30 @@ impl Board {
     /// The memory, by physical address: user and kernel memory, scratchpad and ROM.
     #[inline]
     pub fn ram(&self) -> &Ram
-        ensures { result.now ≡ (view_of self.now).core.bytes }
+        ensures { result.now ≡ self.now.core.bytes }
     {
         &self.ram
     }
 
-    // What the port that the coming step reads answers, and 0 where it reads none.
-    #[inline]
-    fn ask(&mut self, line: bool) -> u32
-        ensures value { (m : Machine) → Stands (view_of self.old) m → line ≡ History.line m.history → result ≡ answered m.history (asked m) }
-        ensures stands { (m : Machine) → Stands (view_of self.old) m → line ≡ History.line m.history → Stands (view_of self.new) (after_read m (asked m)) }
-        ensures rest { view_of self.new ≡ record (view_of self.old) { ports = (view_of self.new).ports } }
-    {
-        match self.cpu.peek_port(&self.ram, line) {
-            Some(read) => self.ports.read(read.at),
-            None => 0,
-        }
-    }
-
-    // Ends a step by what the processor did.
-    #[inline]
-    fn finish(&mut self, did: Did) -> Did
-        requires running { (view_of self.old).stopped ≡ None }
-        requires room { (view_of self.old).taken < 2 ^ 64 - 1 }
-        requires port { IsPortDid did }
-        ensures counted { (view_of self.new).taken ≤ (view_of self.old).taken + 1 }
-        ensures runs_on { WentOn result → (view_of self.new).stopped ≡ None }
-        ensures turned { (m : Machine) (move : Move) → StandsFor (view_of self.old).ports m.history → (view_of self.old).taken ≡ m.taken → Does m.core move did (view_of self.old).core → Turned m (by_move m move) result (view_of self.new) }
-    {
-        match did {
-            Did::PortWrite { at, value } => self.finish_write(at, value),
-            Did::Stopped(stop) => self.stop(stop),
-            Did::Plain => self.advance(did),
-            Did::PortRead { .. } => self.advance(did),
-            Did::Entered { .. } => self.advance(did),
-            Did::Left => self.advance(did),
-        }
-    }
-
-    // Ends a step that wrote to a port.
-    fn finish_write(&mut self, at: u32, value: u32) -> Did
-        requires running { (view_of self.old).stopped ≡ None }
-        requires room { (view_of self.old).taken < 2 ^ 64 - 1 }
-        requires port { IsTrue (port at) }
-        ensures counted { (view_of self.new).taken ≤ (view_of self.old).taken + 1 }
-        ensures runs_on { WentOn result → (view_of self.new).stopped ≡ None }
-        ensures turned { (m : Machine) → StandsFor (view_of self.old).ports m.history → (view_of self.old).taken ≡ m.taken → (view_of self.old).core ≡ m.core →
-            Turned m (after_write m at value (written m.history at value)) result (view_of self.new) }
-    {
-        self.taken += 1;
-        match self.ports.write(at, value) {
-            PortDid::Halt(stop) => self.stop(stop),
-            PortDid::Quiet => Did::PortWrite { at, value },
-            PortDid::Tty(_) => Did::PortWrite { at, value },
-        }
-    }
-
-    // Counts a step.
-    #[inline]
-    fn advance(&mut self, did: Did) -> Did
-        requires { (view_of self.old).taken < 2 ^ 64 - 1 }
-        ensures told { result ≡ did }
-        ensures counted { view_of self.new ≡ record (view_of self.old) { taken = (view_of self.old).taken + 1 } }
-    {
-        self.taken += 1;
-        did
-    }
-
-    // Keeps what the board stopped with.
-    fn stop(&mut self, stop: Stop) -> Did
-        ensures told { result ≡ Did.Stopped stop }
-        ensures stopped { view_of self.new ≡ record (view_of self.old) { stopped = Some stop } }
-    {
-        self.stopped = Some(stop);
-        Did::Stopped(stop)
-    }
-
-    /// One step, and what it did: an instruction with its accesses, an exception, or a stop. No interrupt line is raised yet.
+    /// One step, and what it did: an instruction with its accesses, an exception or interrupt taken, or a stop.
     ///
     /// A write to a port is told as PortWrite, to the console too: its byte is the word modulo 256. A halt is Stopped, and finishes its step; a stop of the guard finishes none.
     /// Ports are told by physical address, and words are 32 bits.
     #[inline]
     #[tactic(auto, unfolding(crate::specs::Turn::turn))]
     pub fn step(&mut self) -> Did
-        requires running { (view_of self.old).stopped ≡ None }
-        requires room { (view_of self.old).taken < 2 ^ 64 - 1 }
-        ensures turns { (m : Machine) → Stands (view_of self.old) m → Turned m (turn m) result (view_of self.new) }
-        ensures counted { (view_of self.new).taken ≤ (view_of self.old).taken + 1 }
-        ensures runs_on { WentOn result → (view_of self.new).stopped ≡ None }
+        requires running { self.old.stopped ≡ None }
+        requires room { self.old.taken < 2 ^ 64 - 1 }
+        ensures turns { (m : Machine) → Stands self.old m → Turned m (turn m) result self.new }
+        ensures after { (calls : ℕ) (m : Machine) → StandsAfter self.old calls m → StandsAfter self.new (calls + 1) m }
+        ensures counted { self.new.taken ≤ self.old.taken + 1 }
+        ensures runs_on { WentOn result → self.new.stopped ≡ None }
     {
-        let line = self.ports.line();
-        let value = self.ask(line);
+        let line = self.devices.line();
+        let value = ask(&self.cpu, &self.ram, &mut self.devices, line);
         let did = self.cpu.step(&mut self.ram, BusAnswer { line, value });
-        self.finish(did)
+        let did = finish(&mut self.devices, did);
+        self.stopped = stop_of(did);
+        did
     }
 }

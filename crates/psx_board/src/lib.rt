@@ -3,6 +3,7 @@
 #![tactic(auto)]
 
 pub mod board;
+mod devices;
 #[cfg(test)]
 mod tests;
 

@@ -1,24 +1,32 @@
-use Rattle.std.proofs.Common.{◌≡◌, subst, ap, ◌∙◌}
-use Rattle.psx_cpu.specs.Processor.{Core, Bus}
-use Rattle.psx_cpu.specs.Step.{step, Does}
+use Rattle.std.proofs.Common.{◌≡◌, ℕ, ◌+◌, Some, None, true, sym, ap, refl, ◌∙◌, arith, subst}
+use Rattle.psx_cpu.specs.declared.step.Did.{Did}
 use Rattle.psx_cpu.specs.Views.{core_of}
-use Rattle.psx_board.specs.Turn.{turn, asked, after_read, bus_of}
+use Rattle.psx_board.specs.Delivery.{delivered}
+use Rattle.psx_board.specs.Turn.{asked, answered}
 use Rattle.psx_board.specs.Stands.{View}
-use Rattle.psx_board.proofs.Turning.{turned-read}
+use Rattle.psx_board.specs.Finished.{finished}
+use Rattle.psx_board.proofs.Kernel.{step-counts}
+use Rattle.psx_board.proofs.Turning.{turned-step}
+use Rattle.psx_board.proofs.Steps.{one_more_step}
 use Rattle.psx_board.proofs.board.Board.step.Goals as goal
 
+-- the view of what the step left
+abbrev view : goal.After-self-1 → View
+view c = record { core = core_of c.step-did.new.self c.step-did.new.ram; devices = c.finish-did.new.devices; taken = c.finish-did.new.devices.count; stopped = c.stop_of-self-inside.result }
+
 pub returns-clause-turns : goal.returns-clause-turns
-unfolding turn
 returns-clause-turns c m s =
-    let now = c.ask-value.new.self in
-    let k = core_of now.cpu now.ram in
-    let left = core_of c.step-did.new.self c.step-did.new.ram in
-    let l = c.line-line.ensures m.history s.ports in
-    let after = c.ask-value.ensures.stands m s l in
-    let same : k ≡ m.core = ap (λ (v : View). v.core) c.ask-value.ensures.rest ∙ s.core in
-    let bus : (record { line = c.line-line.result; value = c.ask-value.result }) ≡ bus_of m = (λ i. record { line = l i; value = c.ask-value.ensures.value m s l i }) in
-    let by_bus : Does k (step k (bus_of m)) c.step-did.result left = subst (λ (u : Bus). Does k (step k u) c.step-did.result left) bus c.step-did.ensures.does in
-    let by_core : Does k (step m.core (bus_of m)) c.step-did.result left = subst (λ (x : Core). Does k (step x (bus_of m)) c.step-did.result left) same by_bus in
-    let does : Does (after_read m (asked m)).core (step m.core (bus_of m)) c.step-did.result left =
-    subst (λ (x : Core). Does x (step m.core (bus_of m)) c.step-did.result left) after.core by_core in
-    turned-read m (asked m) _ _ _ (c.finish.ensures.turned (after_read m (asked m)) (step m.core (bus_of m)) after.ports after.taken does)
+    let now = rw (← c.self.view_is) at s in
+    let d = delivered m in
+    let l = c.line-line.ensures d.history d.waiting now.devices in
+    let f = c.finish-did.ensures.ended _ d.waiting (c.ask-value.ensures.carries d now.core l now.devices) in
+    turned-step m (view c) _ c.line-line.result c.ask-value.result c.step-did.result c.finish-did.result now.core l (c.ask-value.ensures.value d now.core l now.devices) c.step-did.ensures.does
+    (c.ask-value.ensures.same d (answered d.history (asked d)) now.core l) f refl c.stop_of-self-inside.ensures
+
+pub returns-clause-after : goal.returns-clause-after
+returns-clause-after c calls m a = one_more_step calls m c.args.self.now (view c) c.finish-did.result a c.requires.running (returns-clause-turns c)
+
+pub invariant_of-self : goal.invariant_of-self
+invariant_of-self c none =
+    absurd (step-counts (core_of c.self.inside.cpu c.self.inside.ram) _ c.step-did.result (core_of c.step-did.new.self c.step-did.new.ram) c.self.inside.devices.count c.finish-did.new.devices.count
+    (λ fresh. (c.self.invariant fresh).latch) c.step-did.ensures.does (c.finish-did.ensures.counted ∙ ap (λ (n : ℕ). n + finished c.step-did.result) c.ask-value.ensures.counted) none)

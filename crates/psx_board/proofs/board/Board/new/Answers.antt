@@ -1,0 +1,14 @@
+use Rattle.std.proofs.Common.{ℕ, [], ap, subst, ◌∙◌}
+use Rattle.psx_base.specs.Memory.{Memory}
+use Rattle.psx_exe.specs.Placed.{placed}
+use Rattle.psx_ports.specs.Stands.{StandsFor}
+use Rattle.psx_board.proofs.board.Board.new.Goals as goal
+
+pub returns-clause-stands : goal.returns-clause-stands
+returns-clause-stands c =
+    let given = λ (sp : ℕ). StandsFor c.in_ok-ports.ports (record { given = record { pc = c.args.exe.now.pc; gp = c.args.exe.now.gp; sp = sp; threads = c.args.sizes.threads; events = c.args.sizes.events }; events = []; now = 0 }) in
+    record {
+      core = (λ i. record { processor = c.reset.ensures i; bytes = (c.place_program.ensures ∙ ap (λ (m : Memory). placed m c.args.exe.now) c.in_ok-ram.ensures) i });
+      devices = c.new-3.ensures.carries _ (subst given c.stack_top.ensures c.in_ok-ports.ensures.stands);
+      taken = c.new-3.ensures.counted;
+    }

@@ -1,0 +1,12 @@
+use Rattle.psx_board.proofs.Lagging.{ticked, carried}
+use Rattle.psx_board.proofs.devices.Devices.read.Goals as goal
+
+pub returns-clause-value : goal.returns-clause-value
+returns-clause-value c h rest carries =
+    let now = rw (← c.self.view_is) at carries in
+    c.read-value.ensures.value h (ticked _ h rest c.tick.new.self now c.tick.ensures.stands)
+
+pub returns-clause-carries : goal.returns-clause-carries
+returns-clause-carries c h rest carries =
+    let now = rw (← c.self.view_is) at carries in
+    carried _ _ rest (c.read-value.ensures.stands h (ticked _ h rest c.tick.new.self now c.tick.ensures.stands)) now.counted now.waiting

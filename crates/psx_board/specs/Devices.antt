@@ -1,0 +1,32 @@
+-- The devices as the board keeps them: the ports, which may lag behind the count while nothing happens, and the rest of the schedule.
+use Rattle.std.specs.Prelude.{◌≡◌, ◌⊎◌, ℕ, ◌+◌, ◌<◌, ◌≤◌, List, [], ◌∷◌, length}
+use Rattle.psx_sched.specs.declared.schedule.Entry.{Entry}
+use Rattle.psx_ports.specs.History.{History, at_count}
+use Rattle.psx_ports.specs.Stands.{StandsFor}
+use Rattle.psx_ports.specs.Stands as Ports
+
+-- the ports, the entries to come, and the count of finished steps
+pub record Kept : Type 0 where
+  pub ports : Ports.Kept
+  pub waiting : List Entry
+  pub count : ℕ
+
+-- The ports stand for the history as it was at their last tick, since which nothing has happened to a line.
+pub record Carries (d : Kept) (h : History) (rest : List Entry) : Type 0 where
+  pub ports : StandsFor d.ports (at_count h d.ports.now)
+  pub past : d.ports.now ≤ h.now
+  pub quiet : (h.now < d.ports.deadline) ⊎ (d.ports.now ≡ h.now)
+  pub counted : d.count ≡ h.now
+  pub waiting : d.waiting ≡ rest
+
+-- no entry is due before this count
+abbrev pub NotBefore : ℕ → List Entry → Type 0
+NotBefore next [] = Unit {0}
+NotBefore next (e ∷ es) = next ≤ e.count
+
+-- nothing happens before the next count, and there is room in the console's queue for each byte to come
+pub record IsPlanned (d : Kept) (next : ℕ) : Type 0 where
+  pub past : d.ports.now ≤ d.count
+  pub deadline : next ≤ d.ports.deadline
+  pub entries : NotBefore next d.waiting
+  pub room : length d.ports.console + length d.waiting ≤ 65536
