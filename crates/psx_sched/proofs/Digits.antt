@@ -1,10 +1,10 @@
 -- The number that stands at the beginning of a text.
-use Rattle.std.proofs.Common.{◌≡◌, ℕ, ◌+◌, ◌<◌, ◌≤◌, ◌^◌, List, [], ◌∷◌, ◌++◌, length, drop, take, slice_index, decimal, true, false, cond, refl, ap, sym, ◌∙◌, length-append, lit<, arith}
+use Rattle.std.proofs.Common.{◌≡◌, ℕ, ◌+◌, ◌<◌, ◌≤◌, ◌^◌, List, [], ◌∷◌, ◌++◌, length, drop, take, slice_index, decimal, true, false, cond, refl, ap, ◌∙◌, lit<, arith}
 use Rattle.std.specs.Char.{is_ascii_digit}
 use Rattle.std.specs.List.{prefix_len}
 use Rattle.std.specs.Str.Parse.{AllDigits}
 use Rattle.std.proofs.lemmas.Bool.Decides.{nat_tests}
-use Rattle.std.proofs.lemmas.Fmt.{decimal_is_IsNumeral, decimal_injective, decimal_nonempty}
+use Rattle.std.proofs.lemmas.Fmt.{decimal_is_IsNumeral}
 use Rattle.std.proofs.lemmas.Str.Parse.{digit_from_value}
 use Rattle.std.proofs.Math.Seq.{take-append_seam, drop-append_seam}
 use Rattle.psx_sched.specs.declared.schedule.What.{What}
@@ -34,21 +34,7 @@ number_then text n after small low e =
     let len : prefix_len is_ascii_digit text ≡ length (decimal n) = ap (prefix_len is_ascii_digit) e ∙ digits_then (decimal n) after (decimal_is_IsNumeral n small).0.1 low in
     ((λ i. take (len i) (e i)) ∙ take-append_seam (decimal n) after, (λ i. drop (len i) (e i)) ∙ drop-append_seam (decimal n) after)
 
--- a text begins with one number at most
-pub same_number : (m n : ℕ) (x y : List ℕ) → m < 2 ^ 64 → n < 2 ^ 64 → slice_index x 0 < 48 → slice_index y 0 < 48 → decimal m ++ x ≡ decimal n ++ y → (m ≡ n) × (x ≡ y)
-same_number m n x y small_m small_n low_x low_y e =
-    let first = number_then (decimal m ++ x) m x small_m low_x refl in
-    let second = number_then (decimal m ++ x) n y small_n low_y e in
-    (decimal_injective m n small_m small_n (sym first.0 ∙ second.0), sym first.1 ∙ second.1)
-
 -- no digit stands behind a line's count
 pub space_first : (what : What) (rest : List ℕ) → slice_index (what_text what ++ rest) 0 < 48
 space_first (Byte b) rest = lit< tt
 space_first (Line n) rest = lit< tt
-
--- a number is written by some digit
-pub some_number : (n : ℕ) (rest : List ℕ) → n < 2 ^ 64 → decimal n ++ rest ≡ [] → ⊥
-some_number n rest small e =
-    let more = decimal_nonempty n small in
-    let none : length (decimal n) + length rest ≡ 0 = sym (length-append (decimal n) rest) ∙ ap length e in
-    omega arith

@@ -1,5 +1,5 @@
 -- The text of a schedule is short enough to be read.
-use Rattle.std.proofs.Common.{◌≡◌, ℕ, ◌+◌, ◌*◌, ◌≤◌, List, [], ◌∷◌, ◌++◌, length, decimal, codes, length-append, arith}
+use Rattle.std.proofs.Common.{ℕ, ◌*◌, ◌≤◌, List, [], ◌∷◌, ◌++◌, length, decimal, codes, length-append, arith}
 use Rattle.std.proofs.lemmas.Fmt.{length-decimal-le}
 use Rattle.psx_sched.specs.declared.schedule.What.{What}
 use Rattle.psx_sched.specs.declared.schedule.What.TheVariants.{Byte, Line}
@@ -13,8 +13,13 @@ length-what_text (Line n) small = omega (arith, length-append (codes " line ") (
 
 length-line : (e : Entry) → IsPlausible e → length (line e) ≤ 19
 length-line e small =
-    omega (arith, length-append (decimal e.count ++ what_text e.what) (codes "\n"), length-append (decimal e.count) (what_text e.what),
-    length-decimal-le 10 e.count (omega arith) (omega arith) (omega arith), length-what_text e.what small.line)
+    omega (
+      arith,
+      length-append (decimal e.count ++ what_text e.what) (codes "\n"),
+      length-append (decimal e.count) (what_text e.what),
+      length-decimal-le 10 e.count (omega arith) (omega arith) (omega arith),
+      length-what_text e.what small.line,
+    )
 
 -- the lines of plausible entries
 pub length-lines_of : (least : ℕ) (entries : List Entry) → IsOrdered least entries → length (lines_of entries) ≤ 19 * length entries

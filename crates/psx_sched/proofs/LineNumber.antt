@@ -1,11 +1,11 @@
 -- The number of an interrupt line is one digit, or 10.
-use Rattle.std.proofs.Common.{◌≡◌, ◌≢◌, ℕ, ◌+◌, ◌<◌, ◌≤◌, List, [], ◌∷◌, ◌++◌, decimal, codes, slice_index, refl, ap, sym, subst, ◌∙◌, ⊎_elim, ◌⊎◌, inl, inr, arith}
+use Rattle.std.proofs.Common.{◌≡◌, ◌≢◌, ℕ, ◌+◌, ◌<◌, ◌≤◌, List, [], ◌∷◌, ◌++◌, decimal, codes, slice_index, ap, ◌∙◌, ⊎_elim, ◌⊎◌, arith}
 use Rattle.std.proofs.lemmas.Fmt.{decimal_digit, decimal_step}
 
-decimal_ten : decimal 10 ≡ 49 ∷ 48 ∷ []
+pub decimal_ten : decimal 10 ≡ 49 ∷ 48 ∷ []
 decimal_ten = decimal_step 10 (omega arith) (omega arith) ∙ ap (λ (ds : List ℕ). ds ++ (48 ∷ [])) (decimal_digit 1 (omega arith))
 
-digit_or_ten : (n : ℕ) → n ≤ 10 → (n < 10) ⊎ (n ≡ 10)
+pub digit_or_ten : (n : ℕ) → n ≤ 10 → (n < 10) ⊎ (n ≡ 10)
 digit_or_ten n small = grind arith
 
 -- behind the digits of a number below 10 no 0 stands

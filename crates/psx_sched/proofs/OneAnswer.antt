@@ -1,13 +1,12 @@
 -- A text is one schedule at most, or has one first fault.
-use Rattle.std.proofs.Common.{◌≡◌, ◌≢◌, ℕ, ◌+◌, ◌<◌, ◌≤◌, List, [], ◌∷◌, ◌++◌, All, length, Result, Ok, Err, refl, sym, ap, subst, ◌∙◌, append-nil, ⊎_elim, arith}
+use Rattle.std.proofs.Common.{◌≡◌, ◌≢◌, ℕ, ◌<◌, ◌≤◌, List, [], length, Result, Ok, Err, refl, sym, ap, subst, ◌∙◌, ⊎_elim, arith}
 use Rattle.std.proofs.lemmas.Bool.{cases_lt}
 use Rattle.psx_sched.specs.declared.schedule.Entry.{Entry}
 use Rattle.psx_sched.specs.declared.fault.SchedError.{SchedError}
 use Rattle.psx_sched.specs.declared.fault.SchedError.TheVariants.{TooLong, BadLine, OutOfOrder, TooMany, Memory}
-use Rattle.psx_sched.specs.Schedule.{last_count}
-use Rattle.psx_sched.specs.Line.{lines_of}
-use Rattle.psx_sched.specs.Accepted.{longest, most, IsByte, IsLinesThen, IsLineFault, IsFirstFault, IsScheduleOf}
-use Rattle.psx_sched.proofs.SameEntries.{same_entry, line_some, Ends, same_split}
+use Rattle.psx_sched.specs.Accepted.{longest, IsLinesThen, IsLineFault, IsFirstFault, IsScheduleOf}
+use Rattle.psx_sched.proofs.EntryReading.{same_entry, line_some}
+use Rattle.psx_sched.proofs.SameEntries.{Ends, same_split}
 
 ends_at_end : (entries : List Entry) → Ends 0 0 entries []
 ends_at_end entries next told begins room order = line_some next begins.0 told (sym begins.1)

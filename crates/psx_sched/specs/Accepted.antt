@@ -63,3 +63,7 @@ abbrev pub IsScheduleOf : List ℕ → Result (List Entry) SchedError → Type 0
 IsScheduleOf text (Ok entries) = (length text ≤ longest) × IsLinesThen text entries []
 IsScheduleOf text (Err (TooLong limit)) = (longest < length text) × (limit ≡ longest)
 IsScheduleOf text (Err fault) = (length text ≤ longest) × IsFirstFault text fault
+
+-- each text is one schedule, or has one first fault
+abbrev pub HasOneAnswer : List ℕ → Type 0
+HasOneAnswer text = (answer : Result (List Entry) SchedError) × IsScheduleOf text answer × ((other : Result (List Entry) SchedError) → IsScheduleOf text other → other ≡ answer)

@@ -1,5 +1,5 @@
-//! Schedules: what reaches the board from outside, each entry at its count.
-//! A schedule is what the definition of accepted schedules says, and a text is read as the one list of entries `IsScheduleOf` the text.
+//! Schedules: what reaches the board from outside, each entry at its count, and the texts that tell of them.
+//! It meets the definition of accepted schedules: the entries whose lines a text is, or the text's first fault (`IsScheduleOf`).
 //! The board delivers a schedule's entries, and the top call reports its errors.
 #![tactic(auto)]
 
@@ -13,3 +13,4 @@ mod text;
 
 pub use fault::SchedError;
 pub use schedule::{Entry, Schedule, What};
+pub use text::schedule_or_fault;

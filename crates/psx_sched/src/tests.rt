@@ -16,7 +16,10 @@ fn entries_in_order(rt: HostRuntime) -> Result<(), Fail> {
     schedule.push(line).expect(&rt, "memory");
     assert_eq!(rt; schedule.entries(), [byte, line].as_slice());
     let text = schedule.write(rt.alloc()).expect(&rt, "memory");
-    assert_eq!(rt; text.as_slice(), b"5 byte 0A\n4000000000 line 10\n".as_slice());
+    assert_eq!(rt;
+        text.as_slice(),
+        b"5 byte 0A\n4000000000 line 10\n".as_slice()
+    );
     Ok(())
 }
 
@@ -45,7 +48,16 @@ fn texts_that_are_no_schedule(rt: HostRuntime) {
         Err(fault) => Some(fault),
     };
     assert_eq!(rt; fault(b""), None);
-    assert_eq!(rt; fault(b"7 line 0\n5 byte 0A\n"), Some(SchedError::OutOfOrder { line: 2 }));
-    assert_eq!(rt; fault(b"5 byte 0a\n"), Some(SchedError::BadLine { line: 1 }));
-    assert_eq!(rt; fault(b"5 byte 0A\n7 line 0"), Some(SchedError::BadLine { line: 2 }));
+    assert_eq!(rt;
+        fault(b"7 line 0\n5 byte 0A\n"),
+        Some(SchedError::OutOfOrder { line: 2 })
+    );
+    assert_eq!(rt;
+        fault(b"5 byte 0a\n"),
+        Some(SchedError::BadLine { line: 1 })
+    );
+    assert_eq!(rt;
+        fault(b"5 byte 0A\n7 line 0"),
+        Some(SchedError::BadLine { line: 2 })
+    );
 }

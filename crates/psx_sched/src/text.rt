@@ -1,6 +1,6 @@
 //! A schedule as text: each entry is a line.
 ghost use Rattle.std.specs.Prelude.{◌≡◌, ◌⊎◌, ◌↔◌, ◌<◌, ◌+◌, ℕ, List, ◌++◌, Result, Ok, Err, IfOk, IfErr, IfSome, IfNone, IsTrue, false, length};
-ghost use Rattle.psx_sched.specs.Accepted.{IsTold, BeginsWith, BeginsWithNone, IsScheduleOf};
+ghost use Rattle.psx_sched.specs.Accepted.{IsTold, BeginsWith, BeginsWithNone, IsScheduleOf, HasOneAnswer};
 ghost use Rattle.psx_sched.specs.Line.{line, lines_of};
 ghost use Rattle.psx_sched.specs.Schedule.{IsPlausible};
 ghost use Rattle.psx_sched.specs.declared.schedule.Entry.{Entry};
@@ -57,8 +57,13 @@ fn line_len(entry: Entry) -> usize
     line_of(entry).len()
 }
 
+/// The law of accepted schedules: each text is the lines of one schedule, or has one first fault. The call does nothing.
+pub fn schedule_or_fault(text: &[u8])
+    ensures { HasOneAnswer text.now }
+{}
+
 impl Schedule {
-    /// The schedule that a text is, or the text's first fault. `Memory` may come for any text that isn't too long.
+    /// The schedule that a text is, or the text's first fault. Where memory is short, `Memory` comes in its place.
     pub fn read(alloc: Global, text: &[u8]) -> Result<Schedule, SchedError>
         ensures schedule { IfOk result (λ entries. IsScheduleOf text.now (Ok entries)) }
         ensures fault { IfErr result (λ e. (e ≡ SchedError.Memory) ⊎ IsScheduleOf text.now (Err e)) }

@@ -1,5 +1,4 @@
 use Rattle.std.proofs.Common.{◌≡◌, ℕ, ◌<◌, ◌≤◌, ◌^◌, List, ◌∷◌, ◌++◌, codes, decimal, slice_index, drop, take, append_assoc, lit<, ap, ◌∙◌, arith}
-use Rattle.psx_sched.specs.declared.schedule.Entry.{Entry}
 use Rattle.psx_sched.specs.declared.schedule.What.{What}
 use Rattle.psx_sched.specs.declared.schedule.What.TheVariants.{Byte, Line}
 use Rattle.psx_sched.specs.Schedule.{IsLine}

@@ -1,4 +1,4 @@
-use Rattle.std.proofs.Common.{◌≡◌, ◌<◌, ◌∙◌, ap, sym, lit<, arith, rules}
+use Rattle.std.proofs.Common.{◌∙◌, ap, sym, arith, rules}
 use Rattle.psx_sched.specs.declared.schedule.What.TheVariants.{Line}
 use Rattle.psx_sched.proofs.LineNumber.{ten, digit}
 use Rattle.psx_sched.proofs.parts.what_of.Goals as goal

@@ -1,4 +1,4 @@
-use Rattle.std.proofs.Common.{◌≡◌, ◌+◌, All, List, Ok, Err, length, inr, sym, subst, ap, ◌∙◌, arith, rules}
+use Rattle.std.proofs.Common.{◌+◌, All, Ok, Err, length, inr, sym, subst, ap, ◌∙◌, arith, rules}
 use Rattle.std.proofs.lemmas.Grind.{common_steps}
 use Rattle.std.proofs.lemmas.List.Elements.{All-push}
 use Rattle.psx_sched.specs.declared.schedule.Entry.{Entry}
@@ -16,7 +16,7 @@ loop-rest-preserved c =
       split = record {
         schedule = search rules;
         bytes = subst (All (λ (e : Entry). IsByte e.what)) (sym grown)
-        (All-push (λ (e : Entry). IsByte e.what) c.loop-rest.schedule c.in-Some.entry c.loop-rest.invariant.split.bytes c.in-Some.ensures.found.0.byte);
+            (All-push (λ (e : Entry). IsByte e.what) c.loop-rest.schedule c.in-Some.entry c.loop-rest.invariant.split.bytes c.in-Some.ensures.found.0.byte);
         is = grind (arith, common_steps);
       };
       last = sym (ap (last_count 0) grown ∙ last_count-push 0 c.loop-rest.schedule c.in-Some.entry);

@@ -1,4 +1,4 @@
-use Rattle.std.proofs.Common.{◌≡◌, ℕ, ◌+◌, ◌<◌, All, List, take, get_or, subst, sym, ap, ◌∙◌, append-nil, length, arith, rules}
+use Rattle.std.proofs.Common.{◌≡◌, ℕ, ◌+◌, ◌<◌, All, List, take, get_or, subst, sym, ap, ◌∙◌, append-nil, length, arith}
 use Rattle.std.proofs.lemmas.Grind.{common_steps}
 use Rattle.std.proofs.lemmas.List.{take_all, take_more}
 use Rattle.std.proofs.lemmas.List.Elements.{All-push}
@@ -29,10 +29,11 @@ pub returns-clause-reads_back : goal.returns-clause-reads_back
 returns-clause-reads_back c =
     let entries = c.args.self.now in
     let whole : take c.loop-entry.entry-index entries ≡ entries = take_all c.loop-entry.entry-index entries (omega (arith, ap length c.entries-entry-items.ensures.list)) in
-    let lines : c.loop-entry.text.items ≡ lines_of entries = c.loop-entry.invariant.lines ∙ ap lines_of whole in
-    (omega (arith, ap length lines, length-lines_of 0 entries c.entries-entry-items.ensures.schedule.ordered),
-    record {
-      schedule = c.entries-entry-items.ensures.schedule;
-      bytes = subst (All (λ (e : Entry). IsByte e.what)) whole c.loop-entry.invariant.bytes;
-      is = lines ∙ sym (append-nil (lines_of entries));
-    })
+    let lines : c.loop-entry.text.items ≡ lines_of entries = c.loop-entry.invariant.lines ∙ ap lines_of whole in (
+      omega (arith, ap length lines, length-lines_of 0 entries c.entries-entry-items.ensures.schedule.ordered),
+      record {
+        schedule = c.entries-entry-items.ensures.schedule;
+        bytes = subst (All (λ (e : Entry). IsByte e.what)) whole c.loop-entry.invariant.bytes;
+        is = lines ∙ sym (append-nil (lines_of entries));
+      },
+    )
