@@ -201,6 +201,7 @@ impl Board {
         requires events { (16 ≤ sizes.events) × (sizes.events ≤ 64) }
         ensures stands { IfOk result (λ b. Stands b (start rom.now exe.now sizes schedule)) }
         ensures running { IfOk result (λ b. b.stopped ≡ None) }
+        ensures after { IfOk result (λ b. StandsAfter b 0 (start rom.now exe.now sizes schedule)) }
     {
         let mut ram = Ram::new(alloc, rom)?;
         place_program(&mut ram, exe);
@@ -213,10 +214,11 @@ impl Board {
         })
     }
 
-    /// The number of finished steps since reset.
+    /// The number of finished steps since reset. Where it is 0 nothing has stopped.
     #[inline]
     pub fn taken(&self) -> u64
-        ensures { result ≡ self.now.taken }
+        ensures count { result ≡ self.now.taken }
+        ensures fresh { result ≡ 0 → self.now.stopped ≡ None }
     {
         self.devices.count()
     }
@@ -224,8 +226,7 @@ impl Board {
     /// What a step stopped with, if one has. A board that has stopped takes no further step.
     #[inline]
     pub fn stopped(&self) -> Option<Stop>
-        ensures stop { result ≡ self.now.stopped }
-        ensures fresh { self.now.taken ≡ 0 → result ≡ None }
+        ensures { result ≡ self.now.stopped }
     {
         self.stopped
     }

@@ -4,6 +4,7 @@
 
 pub mod board;
 mod devices;
+pub mod law;
 #[cfg(test)]
 mod tests;
 

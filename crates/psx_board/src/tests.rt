@@ -1,11 +1,13 @@
 //! Boards with a ROM of the tests' own, each word as an assembler gives it.
+ghost use Rattle.psx_sched.specs.Schedule.{IsPlausible};
 ghost use Rattle.std.specs.Prelude.{◌≡◌, ◌≤◌, ◌+◌, IfOk, length};
 
 use crate::Board;
 use psx_base::{Sizes, Stop};
 use psx_cpu::Did;
 use psx_exe::Exe;
-use psx_sched::Schedule;
+use psx_ins::reg::Reg;
+use psx_sched::{Entry, Schedule, What};
 use std::alloc::{AllocError, Global};
 use std::test::Fail;
 
@@ -39,15 +41,27 @@ fn file(alloc: Global) -> Result<Vec<u8>, AllocError> {
     Ok(file)
 }
 
-fn board_of(rt: &HostRuntime, words: &[u32]) -> Result<Board, Fail> {
+fn board_with(rt: &HostRuntime, words: &[u32], schedule: Schedule) -> Result<Board, Fail> {
     let exe = Exe::read(rt.alloc(), &file(rt.alloc())?)?;
     let rom = rom_of(rt.alloc(), words)?;
-    let schedule = Schedule::new(rt.alloc());
     let sizes = Sizes {
         threads: 4,
         events: 16,
     };
     Ok(Board::new(rt.alloc(), &rom, &exe, schedule, sizes)?)
+}
+
+fn board_of(rt: &HostRuntime, words: &[u32]) -> Result<Board, Fail> {
+    board_with(rt, words, Schedule::new(rt.alloc()))
+}
+
+// A board with a schedule of one entry.
+fn board_told(rt: &HostRuntime, words: &[u32], entry: Entry) -> Result<Board, Fail>
+    requires { IsPlausible entry }
+{
+    let mut schedule = Schedule::new(rt.alloc());
+    schedule.push(entry)?;
+    board_with(rt, words, schedule)
 }
 
 // One step of a board that hasn't stopped.
@@ -59,6 +73,17 @@ fn step(board: &mut Board) -> Option<Did> {
         Some(_) => None,
         None => Some(board.step()),
     }
+}
+
+// Steps a board until an interrupt is taken, and tells the count before that step.
+fn interrupted_at(board: &mut Board) -> Option<u64> {
+    for _ in 0..20 {
+        let count = board.taken();
+        if step(board) == Some(Did::Entered { code: 0 }) {
+            return Some(count);
+        }
+    }
+    None
 }
 
 #[test]
@@ -125,5 +150,83 @@ fn a_stop_of_the_guard_finishes_no_step(rt: HostRuntime) -> Result<(), Fail> {
         assert_eq!(rt; step(&mut board), Some(did));
     }
     assert_eq!(rt; (board.taken(), board.stopped()), (3, Some(stop)));
+    Ok(())
+}
+
+#[test]
+fn a_line_at_each_step(rt: HostRuntime) -> Result<(), Fail> {
+    // lui r8, 1F80h; addiu r9, r0, 1; sw r9, 1074h(r8); lui r10, 0040h; ori r10, r10, 0401h; lui r11, BFC0h; mtc0 r10, r12;
+    // lw r2, 0(r11); addu r4, r2, r0; beq r0, r0, 2; addiu r5, r0, 1
+    let words = [
+        0x3C08_1F80,
+        0x2409_0001,
+        0xAD09_1074,
+        0x3C0A_0040,
+        0x354A_0401,
+        0x3C0B_BFC0,
+        0x408A_6000,
+        0x8D62_0000,
+        0x0040_2021,
+        0x1000_0002,
+        0x2405_0001,
+    ];
+    // The count of the line, the count of the entry, EPC, Cause and r2: behind the load it is written, and in the slot EPC is the branch's.
+    for (line, entry, epc, cause, loaded) in [
+        (0, 7, 0xBFC0_001C, 0, 0),
+        (7, 7, 0xBFC0_001C, 0, 0),
+        (8, 8, 0xBFC0_0020, 0, 0x3C08_1F80),
+        (9, 9, 0xBFC0_0024, 0, 0x3C08_1F80),
+        (10, 10, 0xBFC0_0024, 0x8000_0000, 0x3C08_1F80),
+        (11, 11, 0xBFC0_0030, 0, 0x3C08_1F80),
+    ] {
+        let raised = Entry {
+            count: line,
+            what: What::Line(0),
+        };
+        let mut board = board_told(&rt, &words, raised)?;
+        assert_eq!(rt; interrupted_at(&mut board), Some(entry));
+        assert_eq!(rt; (board.cpu().epc(), board.cpu().cause()), (epc, cause));
+        assert_eq!(rt; board.cpu().reg(Reg(2)), loaded);
+        assert_eq!(rt; (board.cpu().pc(), board.line()), (0xBFC0_0180, true));
+    }
+    Ok(())
+}
+
+#[test]
+fn a_counter_interrupts(rt: HostRuntime) -> Result<(), Fail> {
+    // lui r8, 1F80h; addiu r9, r0, 40h; sw r9, 1074h(r8); addiu r9, r0, 5; sw r9, 1128h(r8); lui r10, 0040h; ori r10, r10, 0401h; mtc0 r10, r12;
+    // addiu r9, r0, 58h; sw r9, 1124h(r8): counter 2 is 0 behind the tenth step's write and 5 at the count 14.
+    let words = [
+        0x3C08_1F80,
+        0x2409_0040,
+        0xAD09_1074,
+        0x2409_0005,
+        0xAD09_1128,
+        0x3C0A_0040,
+        0x354A_0401,
+        0x408A_6000,
+        0x2409_0058,
+        0xAD09_1124,
+    ];
+    let mut board = board_of(&rt, &words)?;
+    assert_eq!(rt; interrupted_at(&mut board), Some(14));
+    assert_eq!(rt; board.cpu().epc(), 0xBFC0_0038);
+    Ok(())
+}
+
+#[test]
+fn a_byte_is_there_at_its_count(rt: HostRuntime) -> Result<(), Fail> {
+    // lui r8, 1F80h; lw r9, 2104h(r8); lw r9, 2104h(r8)
+    let words = [0x3C08_1F80, 0x8D09_2104, 0x8D09_2104];
+    let letter = Entry {
+        count: 1,
+        what: What::Byte(0x41),
+    };
+    let mut board = board_told(&rt, &words, letter)?;
+    let at = 0x1F80_2104;
+    assert_eq!(rt; step(&mut board), Some(Did::Plain));
+    for value in [0x41, 0] {
+        assert_eq!(rt; step(&mut board), Some(Did::PortRead { at, value }));
+    }
     Ok(())
 }

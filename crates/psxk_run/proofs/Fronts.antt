@@ -5,20 +5,13 @@ use Rattle.psx_base.specs.declared.host.Out.{Out}
 use Rattle.psx_base.specs.declared.host.Out.TheVariants.{Tty, Trace, Ram, Report}
 use Rattle.psx_base.specs.declared.stop.Stop.{Stop}
 use Rattle.psx_base.specs.Host.{IsFront, SendsFront}
-use Rattle.psx_exe.specs.declared.exe.Exe.{Exe}
-use Rattle.psx_exe.specs.declared.fault.ExeError.{ExeError}
-use Rattle.psx_exe.specs.declared.fault.ExeError.TheVariants.{Memory}
-use Rattle.psx_exe.specs.Reading.{read_of}
-use Rattle.psx_board.specs.Run.{Outcome, board_run}
-use Rattle.kern_image.specs.Rom.{rom}
-use Rattle.psxk_run.specs.Command.{Command}
+use Rattle.psx_board.specs.Run.{Outcome}
 use Rattle.psxk_run.specs.Sent.{Grew, GrewFront, OnlyReports}
 use Rattle.psxk_run.specs.Texts.{trace_text, report_of, status_of, Delivers, BreaksOff}
-use Rattle.psxk_run.specs.Reports.{exe_line, memory_line, stop_line}
-use Rattle.psxk_run.specs.Top.{plain_sizes}
-use Rattle.psxk_run.specs.InPart.{ReportsFront, HasFronts, SentInPart, InRun, InFault, InMemory, FaultFront}
+use Rattle.psxk_run.specs.Reports.{stop_line}
+use Rattle.psxk_run.specs.InPart.{HasFronts, ReportsFront}
 use Rattle.psxk_run.proofs.Grew.{grew_more}
-use Rattle.psxk_run.proofs.Ends.{grew_nothing, loud_report, read_fault}
+use Rattle.psxk_run.proofs.Ends.{grew_nothing, loud_report}
 
 pub front_whole : (a b : Option (List ℕ)) (x : List ℕ) → Grew a b x → GrewFront a b x
 front_whole a b x f = record { shown = x; rest = []; grew = f; whole = append-nil x }
@@ -59,12 +52,9 @@ fronts_done old mid new o stop is texts only report =
 pub fronts_failed : (old new : Out → Option (List ℕ)) (o : Outcome) → BreaksOff old new o → HasFronts old new o
 fronts_failed old new o b = record { tty = b.tty; trace = b.trace; ram = b.ram; late = b.late; report = front_none (old Report) (new Report) (report_of o.stop) b.report }
 
--- a front of the line of a program's fault
-pub front_fault : (before now : Out → Option (List ℕ)) (fault : ExeError) (text : List ℕ) → fault ≢ Memory → text ≡ exe_line fault → GrewFront (before Report) (now Report) text → FaultFront before now fault
-front_fault before now fault text real is f = inr (real, rw (← is) f)
+-- ---- from an earlier moment with the same outputs
 
--- the fronts of a run behind a load
-fronts_from : (old mid new : Out → Option (List ℕ)) (o : Outcome) → ((out : Out) → mid out ≡ old out) → HasFronts mid new o → HasFronts old new o
+pub fronts_from : (old mid new : Out → Option (List ℕ)) (o : Outcome) → ((out : Out) → mid out ≡ old out) → HasFronts mid new o → HasFronts old new o
 fronts_from old mid new o same h = record {
   tty = rw (← same Tty) h.tty;
   trace = rw (← same Trace) h.trace;
@@ -73,28 +63,9 @@ fronts_from old mid new o same h = record {
   report = rw (← same Report) h.report;
 }
 
-pub reports_from : (old mid new : Out → Option (List ℕ)) (line : List ℕ) → ((out : Out) → mid out ≡ old out) → OnlyReports mid new → GrewFront (mid Report) (new Report) line → ReportsFront old new line
-reports_from old mid new line same only f = record { only = λ o other. only o other ∙ same o; report = rw (← same Report) f }
+pub reports_from : (old mid new : Out → Option (List ℕ)) (line : List ℕ) → ((out : Out) → mid out ≡ old out) → ReportsFront mid new line → ReportsFront old new line
+reports_from old mid new line same r = record { only = λ o other. r.only o other ∙ same o; report = rw (← same Report) r.report }
 
-part_from : (old mid new : Out → Option (List ℕ)) (o : Outcome) → ((out : Out) → mid out ≡ old out) → HasFronts mid new o ⊎ ReportsFront mid new memory_line → HasFronts old new o ⊎ ReportsFront old new memory_line
-part_from old mid new o same (inl h) = inl (fronts_from old mid new o same h)
-part_from old mid new o same (inr r) = inr (reports_from old mid new memory_line same r.only r.report)
-
-pub run_in_part : {H : Type 0} (holds : H → List ℕ → Option (List ℕ)) (sent : H → Out → Option (List ℕ)) (old mid new : H) (c : Command) (loaded : List ℕ) (program : Exe) → IsFront 8388609 (holds old c.name) loaded → read_of loaded ≡ Ok program → ((o : Out) → sent mid o ≡ sent old o) → HasFronts (sent mid) (sent new) (board_run rom program plain_sizes c.budget) ⊎ ReportsFront (sent mid) (sent new) memory_line → SentInPart holds sent old new c
-run_in_part holds sent old mid new c loaded program front accepted same h = InRun (record {
-  loaded = loaded;
-  is_held = front;
-  program = program;
-  accepted = accepted;
-  texts = part_from (sent old) (sent mid) (sent new) (board_run rom program plain_sizes c.budget) same h;
-})
-
-pub fault_in_part : {H : Type 0} (holds : H → List ℕ → Option (List ℕ)) (sent : H → Out → Option (List ℕ)) (old mid new : H) (c : Command) (loaded : List ℕ) (fault : ExeError) → IsFront 8388609 (holds old c.name) loaded → (fault ≡ Memory) ⊎ (read_of loaded ≡ Err fault) → ((o : Out) → sent mid o ≡ sent old o) → OnlyReports (sent mid) (sent new) → FaultFront (sent mid) (sent new) fault → SentInPart holds sent old new c
-fault_in_part holds sent old mid new c loaded fault front read same only (inl memory) = InMemory (reports_from (sent old) (sent mid) (sent new) memory_line same only memory.1)
-fault_in_part holds sent old mid new c loaded fault front read same only (inr real) = InFault (record {
-  loaded = loaded;
-  is_held = front;
-  fault = fault;
-  refused = read_fault loaded fault real.0 read;
-  report = reports_from (sent old) (sent mid) (sent new) (exe_line fault) same only real.1;
-})
+pub part_from : (old mid new : Out → Option (List ℕ)) (o : Outcome) (line : List ℕ) → ((out : Out) → mid out ≡ old out) → HasFronts mid new o ⊎ ReportsFront mid new line → HasFronts old new o ⊎ ReportsFront old new line
+part_from old mid new o line same (inl h) = inl (fronts_from old mid new o same h)
+part_from old mid new o line same (inr r) = inr (reports_from old mid new line same r)

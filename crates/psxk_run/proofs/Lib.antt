@@ -6,3 +6,9 @@ pub mod Endings
 pub mod Grew
 pub mod Ends
 pub mod Fronts
+pub mod ConfigParts
+pub mod ConfigSettings
+pub mod ConfigAnswer
+pub mod ConfigProgress
+pub mod Loading
+pub mod Answering

@@ -9,7 +9,7 @@ use Rattle.psx_base.specs.Items.{Item, S}
 use Rattle.psx_trace.specs.Line.{line}
 use Rattle.psx_cpu.specs.declared.step.Did.{Did}
 use Rattle.psx_cpu.specs.declared.step.Did.TheVariants.{Plain, PortRead, PortWrite, Entered, Left, Stopped as Barred}
-use Rattle.psx_ports.specs.History as history
+use Rattle.psx_board.specs.Delivery as delivery
 use Rattle.psx_board.specs.Machine.{Machine}
 use Rattle.psx_board.specs.Turn.{Turn, On, Ends, turn}
 use Rattle.psx_board.specs.Run.{Outcome, run, ended, then_run}
@@ -47,12 +47,12 @@ reached-start n b m sent b0 s e = record {
 -- a step that went on told its bytes and lines
 on-step : (whole : Outcome) (n : ℕ) (m : Machine) (t : Turn) (did : Did) (new : View) (b0 : Bool) (before mid now : Out → Option (List ℕ)) (tty trace tty' trace' : List ℕ)
     → Turned m t did new → WentOn did → m.began ≡ b0 → Underway whole (then_run t (run n)) before mid tty trace
-    → Tells mid now tty trace (console_bytes did) (told_items m.began (history.line m.history) m.taken did new.core) tty' trace'
+    → Tells mid now tty trace (console_bytes did) (told_items m.began (delivery.line m) m.history.now did new.core) tty' trace'
     → Reached whole n new (begun b0 did) before now tty' trace'
 on-step whole n m (Ends last stop) did new b0 before mid now tty trace tty' trace' h went e u t = absurd (subst WentOn h.told went)
 on-step whole n m (On next items bytes) did new b0 before mid now tty trace tty' trace' h went e u t =
     let rest = run n next in
-    let split : trace_text (items ++ rest.items) ≡ trace_text (told_items m.began (history.line m.history) m.taken did new.core) ++ trace_text rest.items =
+    let split : trace_text (items ++ rest.items) ≡ trace_text (told_items m.began (delivery.line m) m.history.now did new.core) ++ trace_text rest.items =
     trace_text-append items rest.items ∙ ap (λ (xs : List Item). trace_text xs ++ trace_text rest.items) h.items in
     let bytes_are : bytes ++ rest.tty ≡ console_bytes did ++ rest.tty = ap (λ (xs : List ℕ). xs ++ rest.tty) h.tty in
     record {
@@ -73,7 +73,7 @@ on-step whole n m (On next items bytes) did new b0 before mid now tty trace tty'
 at-end : (whole : Outcome) (last : Machine) (stop : Stop) (b : View) (before now : Out → Option (List ℕ)) (tty trace : List ℕ)
     → Stands b last → Underway whole (ended last stop) before now tty trace → Stopped whole stop b before now tty trace
 at-end whole last stop b before now tty trace s u =
-    let text : trace_text (S last.taken stop ∷ []) ≡ line (S b.taken stop) = trace_text-one (S last.taken stop) ∙ ap (λ (k : ℕ). line (S k stop)) (sym s.taken) in
+    let text : trace_text (S last.history.now stop ∷ []) ≡ line (S b.taken stop) = trace_text-one (S last.history.now stop) ∙ ap (λ (k : ℕ). line (S k stop)) (sym s.taken) in
     record {
       tty = u.tty;
       trace = subst (λ (r : List ℕ). Stream (before Trace) (now Trace) trace r (trace_text whole.items)) text u.trace;
@@ -106,12 +106,12 @@ went_on (Barred stop) h = h stop refl
 
 pub reached-on : (whole : Outcome) (n i : ℕ) (old new : View) (did : Did) (b0 line : Bool) (count : ℕ) (before mid now : Out → Option (List ℕ)) (tty trace tty' trace' : List ℕ)
     → i < n → (r : Reached whole (n - i) old b0 before mid tty trace) → Turned r.machine (turn r.machine) did new → WentOn did
-    → line ≡ history.line r.machine.history → count ≡ old.taken
+    → line ≡ delivery.line r.machine → count ≡ old.taken
     → Tells mid now tty trace (console_bytes did) (told_items b0 line count did new.core) tty' trace'
     → Reached whole (n - (i + 1)) new (begun b0 did) before now tty' trace'
 reached-on whole n i old new did b0 line count before mid now tty trace tty' trace' h r turned went l c t =
     let m = r.machine in
-    let told : told_items b0 line count did new.core ≡ told_items m.began (history.line m.history) m.taken did new.core =
+    let told : told_items b0 line count did new.core ≡ told_items m.began (delivery.line m) m.history.now did new.core =
     (λ j. told_items (sym r.began j) (l j) ((c ∙ r.stands.taken) j) did new.core) in
     on-step whole (n - (i + 1)) m (turn m) did new b0 before mid now tty trace tty' trace' turned went r.began
     (from-run whole _ _ before mid tty trace (run-more n i m h) r.underway)

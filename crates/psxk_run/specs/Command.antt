@@ -13,16 +13,23 @@ abbrev pub budget_of : List ℕ → Option ℕ
 budget_of [] = None
 budget_of (first ∷ rest) = if first == 48 then None else value_of 0 (first ∷ rest)
 
--- a program's name and a budget
+-- the names of a program, of a schedule and of a configuration, where they are loaded, and a budget
 pub record Command : Type 0 where
   pub name : List ℕ
+  pub schedule : Option (List ℕ)
   pub budget : ℕ
+  pub config : Option (List ℕ)
 
-abbrev named : List ℕ → Option ℕ → Option Command
-named name None = None
-named name (Some n) = Some (record { name = name; budget = n })
+-- the word `-` is the empty schedule, and loads nothing
+abbrev pub schedule_of : List ℕ → Option (List ℕ)
+schedule_of word = if bytes_eq word (codes "-") then None else Some word
 
--- `run EXE - BUDGET`
+abbrev pub asked : List ℕ → List ℕ → Option (List ℕ) → Option ℕ → Option Command
+asked name schedule config None = None
+asked name schedule config (Some n) = Some (record { name = name; schedule = schedule_of schedule; budget = n; config = config })
+
+-- `run EXE SCHED BUDGET` and `run EXE SCHED BUDGET CNF`
 unfoldable pub command_of : List (List ℕ) → Option Command
-command_of (word ∷ name ∷ schedule ∷ budget ∷ []) = if bytes_eq word (codes "run") && bytes_eq schedule (codes "-") then named name (budget_of budget) else None
+command_of (word ∷ name ∷ schedule ∷ budget ∷ []) = if bytes_eq word (codes "run") then asked name schedule None (budget_of budget) else None
+command_of (word ∷ name ∷ schedule ∷ budget ∷ config ∷ []) = if bytes_eq word (codes "run") then asked name schedule (Some config) (budget_of budget) else None
 command_of _ = None

@@ -2,18 +2,16 @@
 use Rattle.std.specs.Prelude.{◌≡◌, ◌⊎◌, ℕ, List, Option, Some, None, Ok, Err}
 use Rattle.psx_base.specs.declared.host.Out.{Out}
 use Rattle.psx_base.specs.declared.host.Out.TheVariants.{Tty, Trace, Ram, Report}
-use Rattle.psx_base.specs.Host.{IsFront}
-use Rattle.psx_exe.specs.declared.exe.Exe.{Exe}
-use Rattle.psx_exe.specs.declared.fault.ExeError.{ExeError}
-use Rattle.psx_exe.specs.declared.fault.ExeError.TheVariants.{Memory}
-use Rattle.psx_exe.specs.Reading.{read_of}
-use Rattle.psx_board.specs.Run.{Outcome, board_run}
-use Rattle.kern_image.specs.Rom.{rom}
+use Rattle.psx_board.specs.Run.{Outcome}
+use Rattle.psxk_run.specs.declared.inputs.Inputs.{Inputs}
+use Rattle.psxk_run.specs.declared.refusal.Refusal.{Refusal}
 use Rattle.psxk_run.specs.Command.{Command}
+use Rattle.psxk_run.specs.Inputs.{IsLoaded, GivesAll, Gives, Names}
+use Rattle.psxk_run.specs.Refusals.{line_of}
 use Rattle.psxk_run.specs.Sent.{Grew, GrewFront, OnlyReports}
 use Rattle.psxk_run.specs.Texts.{trace_text, ram_text, report_of}
-use Rattle.psxk_run.specs.Reports.{exe_line, memory_line, read_line, usage_line}
-use Rattle.psxk_run.specs.Top.{plain_sizes}
+use Rattle.psxk_run.specs.Reports.{memory_line, read_line, usage_line}
+use Rattle.psxk_run.specs.Top.{run_of}
 
 -- of one line a front was reported, and nothing else was sent
 pub record ReportsFront (before now : Out → Option (List ℕ)) (line : List ℕ) : Type 0 where
@@ -28,35 +26,32 @@ pub record HasFronts (before now : Out → Option (List ℕ)) (o : Outcome) : Ty
   pub late : (now Ram ≡ before Ram) ⊎ (Grew (before Tty) (now Tty) o.tty × Grew (before Trace) (now Trace) (trace_text o.items))
   pub report : GrewFront (before Report) (now Report) (report_of o.stop)
 
--- a program was loaded and accepted, and of its run's texts fronts were sent, or of the line of want of memory
+-- all files were loaded and accepted, and of the run's texts fronts were sent, or of the line of want of memory
 pub record RanInPart {H : Type 0} (holds : H → List ℕ → Option (List ℕ)) (sent : H → Out → Option (List ℕ)) (old new : H) (c : Command) : Type 0 where
-  pub loaded : List ℕ
-  pub is_held : IsFront 8388609 (holds old c.name) loaded
-  pub program : Exe
-  pub accepted : read_of loaded ≡ Ok program
-  pub texts : HasFronts (sent old) (sent new) (board_run rom program plain_sizes c.budget) ⊎ ReportsFront (sent old) (sent new) memory_line
+  pub inputs : Inputs
+  pub given : GivesAll (IsLoaded (holds old)) c inputs
+  pub texts : HasFronts (sent old) (sent new) (run_of inputs c.budget) ⊎ ReportsFront (sent old) (sent new) memory_line
 
--- a program was loaded that has a fault, and of its line a front was reported
+-- the files that were loaded have a fault, and of its line a front was reported
 pub record RefusedInPart {H : Type 0} (holds : H → List ℕ → Option (List ℕ)) (sent : H → Out → Option (List ℕ)) (old new : H) (c : Command) : Type 0 where
-  pub loaded : List ℕ
-  pub is_held : IsFront 8388609 (holds old c.name) loaded
-  pub fault : ExeError
-  pub refused : read_of loaded ≡ Err fault
-  pub report : ReportsFront (sent old) (sent new) (exe_line fault)
+  pub refusal : Refusal
+  pub given : Gives (IsLoaded (holds old)) c (Err refusal)
+  pub report : ReportsFront (sent old) (sent new) (line_of refusal)
+
+-- a name that the words give wasn't loaded, and of its line a front was reported
+pub record UnreadInPart {H : Type 0} (sent : H → Out → Option (List ℕ)) (old new : H) (c : Command) : Type 0 where
+  pub name : List ℕ
+  pub named : Names c name
+  pub report : ReportsFront (sent old) (sent new) (read_line name)
 
 -- what a command has sent
 pub data SentInPart {H : Type 0} (holds : H → List ℕ → Option (List ℕ)) (sent : H → Out → Option (List ℕ)) (old new : H) (c : Command) : Type 0 where
   InRun : RanInPart holds sent old new c → SentInPart holds sent old new c
   InFault : RefusedInPart holds sent old new c → SentInPart holds sent old new c
-  InRead : ReportsFront (sent old) (sent new) (read_line c.name) → SentInPart holds sent old new c
+  InRead : UnreadInPart sent old new c → SentInPart holds sent old new c
   InMemory : ReportsFront (sent old) (sent new) memory_line → SentInPart holds sent old new c
 
 -- what was sent for the words
 abbrev pub WordsInPart : {H : Type 0} → (H → List ℕ → Option (List ℕ)) → (H → Out → Option (List ℕ)) → H → H → Option Command → Type 0
 WordsInPart holds sent old new None = ReportsFront (sent old) (sent new) usage_line
 WordsInPart holds sent old new (Some c) = SentInPart holds sent old new c
-
--- a front of a fault's line was reported, or where memory was wanting, of that line
-abbrev pub FaultFront : (Out → Option (List ℕ)) → (Out → Option (List ℕ)) → ExeError → Type 0
-FaultFront before now fault =
-    ((fault ≡ Memory) × GrewFront (before Report) (now Report) memory_line) ⊎ ((fault ≡ Memory → ⊥) × GrewFront (before Report) (now Report) (exe_line fault))

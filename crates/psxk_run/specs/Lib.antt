@@ -5,6 +5,10 @@ pub mod Underway
 pub mod Command
 pub mod Told
 pub mod Words
+pub mod Config
 pub mod Reports
+pub mod Inputs
+pub mod Refusals
 pub mod Top
 pub mod InPart
+pub mod Ends

@@ -3,6 +3,10 @@ use Rattle.std.specs.Prelude.{ℕ, List, ◌++◌, codes, decimal}
 use Rattle.psx_base.specs.declared.stop.Stop.{Stop}
 use Rattle.psx_exe.specs.declared.fault.ExeError.{ExeError}
 use Rattle.psx_exe.specs.declared.fault.ExeError.TheVariants.{TooLong, Short, NoMark, TextRange, Truncated, FillRange, BadPc, Memory}
+use Rattle.psx_sched.specs.declared.fault.SchedError.{SchedError}
+use Rattle.psx_sched.specs.declared.fault.SchedError.TheVariants.{TooLong as SchedTooLong, BadLine, OutOfOrder, TooMany, Memory as SchedMemory}
+use Rattle.psxk_run.specs.declared.configuration.ConfError.{ConfError}
+use Rattle.psxk_run.specs.declared.configuration.ConfError.TheVariants.{TooLong as ConfTooLong, BadLine as ConfBadLine, Range}
 use Rattle.psx_trace.specs.Digits.{field}
 use Rattle.psx_trace.specs.StopText.{stop_text}
 
@@ -22,6 +26,26 @@ exe_line error = codes "psxk: exe: " ++ (exe_error_text error ++ codes "\n")
 
 abbrev pub stop_line : Stop → List ℕ
 stop_line stop = codes "psxk: stopped " ++ (stop_text stop ++ codes "\n")
+
+-- what makes a text no schedule, by its name and its field in decimal
+unfoldable pub schedule_error_text : SchedError → List ℕ
+schedule_error_text (SchedTooLong limit) = codes "TooLong " ++ decimal limit
+schedule_error_text (BadLine line) = codes "BadLine " ++ decimal line
+schedule_error_text (OutOfOrder line) = codes "OutOfOrder " ++ decimal line
+schedule_error_text TooMany = codes "TooMany"
+schedule_error_text SchedMemory = codes "Memory"
+
+abbrev pub schedule_line : SchedError → List ℕ
+schedule_line error = codes "psxk: schedule: " ++ (schedule_error_text error ++ codes "\n")
+
+-- what makes a text no configuration
+unfoldable pub config_error_text : ConfError → List ℕ
+config_error_text (ConfTooLong limit) = codes "TooLong " ++ decimal limit
+config_error_text (ConfBadLine line) = codes "BadLine " ++ decimal line
+config_error_text (Range line) = codes "Range " ++ decimal line
+
+abbrev pub config_line : ConfError → List ℕ
+config_line error = codes "psxk: config: " ++ (config_error_text error ++ codes "\n")
 
 -- the line of words that are in no command's form
 abbrev pub usage_line : List ℕ

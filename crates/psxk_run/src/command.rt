@@ -1,8 +1,8 @@
 //! What the words of the command line ask for.
 ghost use Rattle.std.specs.Prelude.{◌≡◌, ◌<◌, ◌≤◌, ◌+◌, ◌*◌, ◌-◌, ◌^◌, ℕ, List, [], ◌∷◌, map, IfSome};
 ghost use Rattle.std.specs.Option.{option_map};
-ghost use Rattle.psxk_run.specs.Command.{budget_of, value_of, command_of};
-ghost use Rattle.psxk_run.specs.Told.{told};
+ghost use Rattle.psxk_run.specs.Command.{budget_of, value_of, schedule_of, asked, command_of};
+ghost use Rattle.psxk_run.specs.Told.{told, word_of};
 ghost use Rattle.psxk_run.specs.Words.{words_of};
 
 /// A run of a program.
@@ -10,8 +10,12 @@ ghost use Rattle.psxk_run.specs.Words.{words_of};
 pub struct Run<'a> {
     /// The name that the program is loaded by.
     pub name: &'a str,
+    /// The name that the schedule is loaded by; None is the empty schedule.
+    pub schedule: Option<&'a str>,
     /// How many steps it may take, 1 to 4,000,000,000.
     pub budget: u32,
+    /// The name that the configuration is loaded by; None is that of 4 threads and 16 events.
+    pub config: Option<&'a str>,
 }
 
 // The number that the digits give.
@@ -49,18 +53,38 @@ pub fn budget(word: &str) -> Option<u32>
     value(bytes)
 }
 
-/// The run that the words ask for: `run EXE - BUDGET`.
+// The name of a schedule: `-` is none.
+fn schedule_name<'a>(word: &'a str) -> Option<&'a str>
+    ensures { word_of result ≡ schedule_of word.now }
+{
+    if word == "-" { None } else { Some(word) }
+}
+
+// A run by its words.
+fn run_of<'a>(name: &'a str, schedule: &'a str, number: &str, config: Option<&'a str>) -> Option<Run<'a>>
+    ensures asked { option_map told result ≡ asked name.now schedule.now (word_of config.entry) (budget_of number.now) }
+    ensures budget { IfSome result (λ r. 0 < r.budget) }
+{
+    let budget = budget(number)?;
+    Some(Run {
+        name,
+        schedule: schedule_name(schedule),
+        budget,
+        config,
+    })
+}
+
+/// The run that the words ask for: `run EXE SCHED BUDGET` or `run EXE SCHED BUDGET CNF`.
 #[tactic(auto, unfolding(crate::specs::Command::command_of))]
 pub fn command<'a>(words: &[&'a str]) -> Option<Run<'a>>
     ensures asked { option_map told result ≡ command_of (words_of words.now) }
     ensures budget { IfSome result (λ r. 0 < r.budget) }
 {
-    let [word, name, schedule, number] = words else {
-        return None;
-    };
-    if *word != "run" || *schedule != "-" {
-        return None;
+    match words {
+        [word, name, schedule, number] if *word == "run" => run_of(name, schedule, number, None),
+        [word, name, schedule, number, config] if *word == "run" => {
+            run_of(name, schedule, number, Some(config))
+        }
+        _ => None,
     }
-    let budget = budget(number)?;
-    Some(Run { name, budget })
 }

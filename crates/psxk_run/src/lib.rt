@@ -3,9 +3,12 @@
 #![tactic(auto)]
 
 pub mod command;
+pub mod configuration;
+pub mod inputs;
 mod items;
 mod lines;
 mod pieces;
+pub mod refusal;
 mod report;
 pub mod run;
 mod steps;
@@ -13,5 +16,6 @@ mod steps;
 mod tests;
 pub mod top;
 
+pub use configuration::{ConfError, config};
 pub use run::{RunEnd, run_on};
 pub use top::psxk;

@@ -3,12 +3,14 @@ ghost use Rattle.std.specs.Prelude.{◌≡◌, ◌≤◌, ◌+◌, ◌++◌, len
 ghost use Rattle.arrayvec.specs.ArrayVec.{array_vec_len};
 ghost use Rattle.psx_trace.specs.Digits.{field};
 ghost use Rattle.psx_trace.specs.StopText.{stop_text};
-ghost use Rattle.psxk_run.specs.Reports.{exe_error_text, exe_line, stop_line};
+ghost use Rattle.psxk_run.specs.Reports.{exe_error_text, exe_line, schedule_error_text, schedule_line, config_error_text, config_line, stop_line};
 
 use arrayvec::ArrayVec;
 use itoa::Buffer;
 use psx_base::Stop;
+use crate::configuration::ConfError;
 use psx_exe::ExeError;
+use psx_sched::SchedError;
 use psx_trace::stop_text;
 use psx_trace::text::{put, put_field};
 
@@ -17,7 +19,7 @@ pub type ReportLine = ArrayVec<u8, 80>;
 
 // A name alone.
 fn named(name: &[u8]) -> ReportLine
-    requires { length name.now ≤ 10 }
+    requires { length name.now ≤ 12 }
     ensures items { result.items ≡ name.now }
     ensures len { array_vec_len result ≡ length name.now }
 {
@@ -28,7 +30,7 @@ fn named(name: &[u8]) -> ReportLine
 
 // A name and an address.
 fn with_address(name: &[u8], at: u32) -> ReportLine
-    requires { length name.now ≤ 10 }
+    requires { length name.now ≤ 12 }
     ensures items { result.items ≡ name.now ++ field at }
     ensures len { array_vec_len result ≤ 50 }
 {
@@ -39,7 +41,7 @@ fn with_address(name: &[u8], at: u32) -> ReportLine
 
 // A name, which ends with a space, and a number in decimal.
 fn with_number(name: &[u8], number: u64) -> ReportLine
-    requires { length name.now ≤ 10 }
+    requires { length name.now ≤ 12 }
     ensures items { result.items ≡ name.now ++ decimal number }
     ensures len { array_vec_len result ≤ 50 }
 {
@@ -69,7 +71,7 @@ fn exe_error_text(error: ExeError) -> ReportLine
 
 // A text between a head and a line feed.
 fn line_of(head: &[u8], text: &[u8]) -> ReportLine
-    requires head { length head.now ≤ 14 }
+    requires head { length head.now ≤ 16 }
     requires text { length text.now ≤ 50 }
     ensures { result.items ≡ head.now ++ (text.now ++ codes "\n") }
 {
@@ -85,6 +87,48 @@ pub(crate) fn exe_line(error: ExeError) -> ReportLine
     ensures { result.items ≡ exe_line error }
 {
     line_of(b"psxk: exe: ", exe_error_text(error).as_slice())
+}
+
+// The text of what makes a text no schedule.
+#[tactic(auto, unfolding(crate::specs::Reports::schedule_error_text))]
+fn schedule_error_text(error: SchedError) -> ReportLine
+    ensures items { result.items ≡ schedule_error_text error }
+    ensures len { array_vec_len result ≤ 50 }
+{
+    match error {
+        SchedError::TooLong { limit } => with_number(b"TooLong ", limit as u64),
+        SchedError::BadLine { line } => with_number(b"BadLine ", line as u64),
+        SchedError::OutOfOrder { line } => with_number(b"OutOfOrder ", line as u64),
+        SchedError::TooMany => named(b"TooMany"),
+        SchedError::Memory => named(b"Memory"),
+    }
+}
+
+/// The line that reports what makes a text no schedule.
+pub(crate) fn schedule_line(error: SchedError) -> ReportLine
+    ensures { result.items ≡ schedule_line error }
+{
+    line_of(b"psxk: schedule: ", schedule_error_text(error).as_slice())
+}
+
+// The text of what makes a text no configuration.
+#[tactic(auto, unfolding(crate::specs::Reports::config_error_text))]
+fn config_error_text(error: ConfError) -> ReportLine
+    ensures items { result.items ≡ config_error_text error }
+    ensures len { array_vec_len result ≤ 50 }
+{
+    match error {
+        ConfError::TooLong { limit } => with_number(b"TooLong ", limit as u64),
+        ConfError::BadLine { line } => with_number(b"BadLine ", line as u64),
+        ConfError::Range { line } => with_number(b"Range ", line as u64),
+    }
+}
+
+/// The line that reports what makes a text no configuration.
+pub(crate) fn config_line(error: ConfError) -> ReportLine
+    ensures { result.items ≡ config_line error }
+{
+    line_of(b"psxk: config: ", config_error_text(error).as_slice())
 }
 
 /// The line that reports a stop.

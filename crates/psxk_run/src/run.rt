@@ -5,7 +5,6 @@ ghost use Rattle.psx_base.specs.Host.{Rose};
 ghost use Rattle.psx_board.specs.Machine.{Machine};
 ghost use Rattle.psx_board.specs.Run.{run};
 ghost use Rattle.psx_board.specs.Stands.{Stands};
-ghost use Rattle.psx_board.specs.View.{view_of};
 ghost use Rattle.psxk_run.specs.Sent.{Grew, GrewFront, GoesOn, OnlyOn};
 ghost use Rattle.psxk_run.specs.Texts.{ram_text, Delivers, BreaksOff, Partway, IfDone, OnFailed};
 
@@ -43,13 +42,12 @@ fn send_ram<H: Host>(host: &mut H, ram: &Ram) -> Result<(), SendError>
 
 // Runs a board, and sends its texts.
 fn sends<H: Host>(board: &mut Board, budget: u32, host: &mut H) -> Result<Stop, SendError>
-    requires fresh { (view_of board.old).taken ≡ 0 }
-    requires running { (view_of board.old).stopped ≡ None }
-    ensures stop { (m : Machine) → Stands (view_of board.old) m → m.began ≡ false → IfOk result (λ stop. stop ≡ (run budget m).stop) }
-    ensures sent { (m : Machine) → Stands (view_of board.old) m → m.began ≡ false → OnOk result (Delivers (H.sent host.old) (H.sent host.new) (run budget m)) }
-    ensures left { (m : Machine) → Stands (view_of board.old) m → m.began ≡ false → OnOk result (Stands (view_of board.new) (run budget m).last) }
-    ensures fronts { (m : Machine) → Stands (view_of board.old) m → m.began ≡ false → OnErr result (BreaksOff (H.sent host.old) (H.sent host.new) (run budget m)) }
-    ensures partway { (m : Machine) → Stands (view_of board.old) m → m.began ≡ false → OnErr result (Partway (view_of board.new) budget m) }
+    requires fresh { board.old.taken ≡ 0 }
+    ensures stop { (m : Machine) → Stands board.old m → m.began ≡ false → IfOk result (λ stop. stop ≡ (run budget m).stop) }
+    ensures sent { (m : Machine) → Stands board.old m → m.began ≡ false → OnOk result (Delivers (H.sent host.old) (H.sent host.new) (run budget m)) }
+    ensures left { (m : Machine) → Stands board.old m → m.began ≡ false → OnOk result (Stands board.new (run budget m).last) }
+    ensures fronts { (m : Machine) → Stands board.old m → m.began ≡ false → OnErr result (BreaksOff (H.sent host.old) (H.sent host.new) (run budget m)) }
+    ensures partway { (m : Machine) → Stands board.old m → m.began ≡ false → OnErr result (Partway board.new budget m) }
     ensures failed { OnErr result (Rose (H.send_faults host.old) (H.send_faults host.new)) }
     ensures on { GoesOn H.holds H.load_faults H.send_faults host.old host.new }
 {
@@ -70,19 +68,18 @@ fn sends<H: Host>(board: &mut Board, budget: u32, host: &mut H) -> Result<Stop, 
 /// Runs a board from its first step until it stops or the budget of steps is used up. It sends Tty and Trace in pieces of fixed room, and Ram after both.
 /// It takes no memory.
 pub fn run_on<H: Host>(board: &mut Board, budget: u32, host: &mut H) -> RunEnd
-    requires fresh { (view_of board.old).taken ≡ 0 }
-    requires running { (view_of board.old).stopped ≡ None }
+    requires fresh { board.old.taken ≡ 0 }
     requires budget { 0 < budget }
 
     // Done with a stop comes exactly where the board's run has that stop and no send failed; the texts of that run are sent, and the board is as after it.
-    ensures stop { (m : Machine) → Stands (view_of board.old) m → m.began ≡ false → IfDone result (λ stop. stop ≡ (run budget m).stop) }
-    ensures sent { (m : Machine) → Stands (view_of board.old) m → m.began ≡ false → IfDone result (λ stop. Delivers (H.sent host.old) (H.sent host.new) (run budget m)) }
-    ensures left { (m : Machine) → Stands (view_of board.old) m → m.began ≡ false → IfDone result (λ stop. Stands (view_of board.new) (run budget m).last) }
+    ensures stop { (m : Machine) → Stands board.old m → m.began ≡ false → IfDone result (λ stop. stop ≡ (run budget m).stop) }
+    ensures sent { (m : Machine) → Stands board.old m → m.began ≡ false → IfDone result (λ stop. Delivers (H.sent host.old) (H.sent host.new) (run budget m)) }
+    ensures left { (m : Machine) → Stands board.old m → m.began ≡ false → IfDone result (λ stop. Stands board.new (run budget m).last) }
 
     // Failed comes only where a count of sends rose. It leaves a front of each text, and the board as after the steps that were made.
     ensures failed { OnFailed result (Rose (H.send_faults host.old) (H.send_faults host.new)) }
-    ensures fronts { (m : Machine) → Stands (view_of board.old) m → m.began ≡ false → OnFailed result (BreaksOff (H.sent host.old) (H.sent host.new) (run budget m)) }
-    ensures partway { (m : Machine) → Stands (view_of board.old) m → m.began ≡ false → OnFailed result (Partway (view_of board.new) budget m) }
+    ensures fronts { (m : Machine) → Stands board.old m → m.began ≡ false → OnFailed result (BreaksOff (H.sent host.old) (H.sent host.new) (run budget m)) }
+    ensures partway { (m : Machine) → Stands board.old m → m.began ≡ false → OnFailed result (Partway board.new budget m) }
     ensures on { GoesOn H.holds H.load_faults H.send_faults host.old host.new }
 {
     match sends(board, budget, host) {

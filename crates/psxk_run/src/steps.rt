@@ -4,7 +4,6 @@ ghost use Rattle.psx_base.specs.Host.{Rose};
 ghost use Rattle.psx_board.specs.Machine.{Machine};
 ghost use Rattle.psx_board.specs.Run.{run};
 ghost use Rattle.psx_board.specs.Stands.{Stands};
-ghost use Rattle.psx_board.specs.View.{view_of};
 ghost use Rattle.psxk_run.specs.Sent.{GoesOn};
 ghost use Rattle.psxk_run.specs.Texts.{BreaksOff, Partway};
 ghost use Rattle.psxk_run.specs.Underway.{Stopped};
@@ -21,20 +20,19 @@ pub(crate) fn steps<H: Host>(
     host: &mut H,
     lines: &mut Lines,
 ) -> Result<Stop, SendError>
-    requires fresh { (view_of board.old).taken ≡ 0 }
-    requires running { (view_of board.old).stopped ≡ None }
+    requires fresh { board.old.taken ≡ 0 }
     requires tty { lines.old.tty.items ≡ [] }
     requires trace { lines.old.trace.items ≡ [] }
     requires began { lines.old.began ≡ false }
-    ensures stopped { (m : Machine) → Stands (view_of board.old) m → m.began ≡ false →
-        IfOk result (λ stop. Stopped (run budget m) stop (view_of board.new) (H.sent host.old) (H.sent host.new) lines.new.tty.items lines.new.trace.items) }
-    ensures breaks { (m : Machine) → Stands (view_of board.old) m → m.began ≡ false → OnErr result (BreaksOff (H.sent host.old) (H.sent host.new) (run budget m)) }
-    ensures partway { (m : Machine) → Stands (view_of board.old) m → OnErr result (Partway (view_of board.new) budget m) }
+    ensures stopped { (m : Machine) → Stands board.old m → m.began ≡ false →
+        IfOk result (λ stop. Stopped (run budget m) stop board.new (H.sent host.old) (H.sent host.new) lines.new.tty.items lines.new.trace.items) }
+    ensures breaks { (m : Machine) → Stands board.old m → m.began ≡ false → OnErr result (BreaksOff (H.sent host.old) (H.sent host.new) (run budget m)) }
+    ensures partway { (m : Machine) → Stands board.old m → OnErr result (Partway board.new budget m) }
     ensures failed { OnErr result (Rose (H.send_faults host.old) (H.send_faults host.new)) }
     ensures on { GoesOn H.holds H.load_faults H.send_faults host.old host.new }
 {
+    let mut count = board.taken();
     for turn in 0..budget {
-        let count = board.taken();
         let line = board.line();
         let did = board.step();
         match did {
@@ -45,6 +43,7 @@ pub(crate) fn steps<H: Host>(
                 }
             }
         }
+        count = board.taken();
     }
     Ok(Stop::Budget)
 }

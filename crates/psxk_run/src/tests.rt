@@ -9,7 +9,9 @@ fn reads_the_words(rt: HostRuntime) {
     assert_eq!(rt; budget("4000000001"), None);
     assert_eq!(rt; budget("010"), None);
     let run = command(&["run", "a", "-", "20"]);
-    assert_eq!(rt; run.map(|run| run.budget), Some(20));
+    assert_eq!(rt; run.map(|run| (run.schedule, run.budget)), Some((None, 20)));
+    let run = command(&["run", "a", "b", "20", "c"]);
+    assert_eq!(rt; run.map(|run| (run.schedule, run.config)), Some((Some("b"), Some("c"))));
 }
 
 #[test]

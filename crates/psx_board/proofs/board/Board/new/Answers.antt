@@ -1,4 +1,5 @@
-use Rattle.std.proofs.Common.{ℕ, [], ap, subst, ◌∙◌}
+use Rattle.std.proofs.Common.{ℕ, [], refl, ap, subst, ◌∙◌}
+use Rattle.psx_board.specs.SoFar.{so_far}
 use Rattle.psx_base.specs.Memory.{Memory}
 use Rattle.psx_exe.specs.Placed.{placed}
 use Rattle.psx_ports.specs.Stands.{StandsFor}
@@ -12,3 +13,7 @@ returns-clause-stands c =
       devices = c.new-3.ensures.carries _ (subst given c.stack_top.ensures c.in_ok-ports.ensures.stands);
       taken = c.new-3.ensures.counted;
     }
+
+pub returns-clause-after : goal.returns-clause-after
+unfolding so_far
+returns-clause-after c = record { stands = returns-clause-stands c; stopped = refl }

@@ -2,7 +2,7 @@ use Rattle.std.proofs.Common.{◌++◌, codes}
 use Rattle.psx_base.specs.declared.host.Out.TheVariants.{Report}
 use Rattle.psxk_run.proofs.Fronts.{front_whole, front_sent, front_first, front_later}
 use Rattle.psxk_run.proofs.Grew.{grew_more}
-use Rattle.psxk_run.proofs.top.send_read.Goals as goal
+use Rattle.psxk_run.proofs.refusal.send_read.Goals as goal
 
 pub returns-clause-all : goal.returns-clause-all
 returns-clause-all g c =

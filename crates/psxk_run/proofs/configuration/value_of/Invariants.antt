@@ -1,0 +1,9 @@
+use Rattle.std.proofs.Common.{◌≡◌, ◌<◌, ◌^◌, drop}
+use Rattle.std.specs.Str.Parse.{digits_value, digits_value_after}
+use Rattle.psxk_run.proofs.configuration.value_of.Given as goal
+
+abbrev pub invariant-loop-digit : goal.invariant-loop-digit
+invariant-loop-digit l = record {
+  so_far : digits_value_after 16 l.value (drop l.digit-index l.digits) ≡ digits_value 16 l.digits;
+  small : l.value < 16 ^ l.digit-index;
+}

@@ -1,0 +1,42 @@
+-- How a command ends, in one relation: by a run, or refused.
+use Rattle.std.specs.Prelude.{◌≡◌, ◌⊎◌, ℕ, List, Option}
+use Rattle.psx_base.specs.declared.host.Out.{Out}
+use Rattle.psx_base.specs.declared.host.Out.TheVariants.{Report}
+use Rattle.psxk_run.specs.declared.inputs.Inputs.{Inputs}
+use Rattle.psxk_run.specs.declared.refusal.Refusal.{Refusal}
+use Rattle.psxk_run.specs.Command.{Command}
+use Rattle.psxk_run.specs.Inputs.{IsLoaded, GivesAll, IsCause}
+use Rattle.psxk_run.specs.Refusals.{line_of, status_of}
+use Rattle.psxk_run.specs.Reports.{memory_line}
+use Rattle.psxk_run.specs.Sent.{GrewFront, OnlyReports, Says}
+use Rattle.psxk_run.specs.Top.{run_of, RunsProgram}
+use Rattle.psxk_run.specs.InPart.{HasFronts, ReportsFront}
+
+-- what contracts see of a host at a moment
+pub record Moment : Type 0 where
+  pub holds : List ℕ → Option (List ℕ)
+  pub sent : Out → Option (List ℕ)
+  pub loads : List ℕ → ℕ
+  pub sends : ℕ
+
+abbrev pub moment : {H : Type 0} → (H → List ℕ → Option (List ℕ)) → (H → Out → Option (List ℕ)) → (H → List ℕ → ℕ) → (H → ℕ) → H → Moment
+moment holds sent loads sends h = record { holds = holds h; sent = sent h; loads = loads h; sends = sends h }
+
+-- the run of the inputs that all files gave
+pub record EndsRun (old new : Moment) (c : Command) (status : ℕ) : Type 0 where
+  pub inputs : Inputs
+  pub given : GivesAll (IsLoaded old.holds) c inputs
+  pub ran : RunsProgram old.sent new.sent old.sends new.sends (run_of inputs c.budget) status
+  pub fronts : HasFronts old.sent new.sent (run_of inputs c.budget) ⊎ ReportsFront old.sent new.sent memory_line
+
+-- a refusal and its report
+pub record EndsRefused (old new : Moment) (c : Command) (status : ℕ) : Type 0 where
+  pub refusal : Refusal
+  pub cause : IsCause old.holds old.loads new.loads c refusal
+  pub says : Says old.sent new.sent old.sends new.sends (line_of refusal) (status_of refusal) status
+  pub front : GrewFront (old.sent Report) (new.sent Report) (line_of refusal)
+  pub only : OnlyReports old.sent new.sent
+
+pub data Ends (old new : Moment) (c : Command) (status : ℕ) : Type 0 where
+  ByRun : EndsRun old new c status → Ends old new c status
+  ByRefusal : EndsRefused old new c status → Ends old new c status
