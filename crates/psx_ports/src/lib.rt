@@ -1,42 +1,50 @@
-//! MOCK
+//! The ports of the board: the console's data port, the halt ports and the start ports.
+//! Their answers are functions of the history of accesses, by which the board's run is defined; the board holds them.
 #![tactic(auto)]
 
-ghost use Rattle.std.specs.Prelude.{◌≡◌, ◌≤◌, ◌+◌, ◌<◌, ◌∷◌, ◌++◌, ℕ, [], length, IfOk, IsTrue};
+ghost use Rattle.std.specs.Prelude.{◌≡◌, ◌≤◌, ℕ, [], IfOk, IsTrue};
 ghost use Rattle.psx_base.specs.PortAddresses.{port};
-ghost use Rattle.psx_ports.specs.History;
-ghost use Rattle.psx_ports.specs.History.{History, Read, Write, Raise, Give, then_event, at_count, answer, written};
 ghost use Rattle.psx_ports.specs.HaltCodes.{halt_stop, table_of};
-ghost use Rattle.psx_ports.specs.History.{halted};
+ghost use Rattle.psx_ports.specs.History.{History, line, halted, Read, Write, then_access, answer, written};
 ghost use Rattle.psx_ports.specs.Stands.{StandsFor};
 
-use psx_base::ports::{CONSOLE_DATA, HALT, HALT_A, HALT_B, HALT_C};
+use psx_base::ports::{
+    CONSOLE_DATA, HALT, HALT_A, HALT_B, HALT_C, START_EVENTS, START_GP, START_PC, START_SP,
+    START_THREADS,
+};
 use psx_base::{Memory, Sizes, Stop, Table};
-
 use std::alloc::Global;
 use std::marker::Model;
 
+/// What a write did beyond its port.
 #[derive(Clone, Copy, PartialEq, Eq, Debug)]
 pub enum PortDid {
+    /// Nothing.
     Quiet,
+    /// A byte was written to the terminal.
     Tty(u8),
+    /// The run stops.
     Halt(Stop),
 }
 
+/// The ports. They keep no history; contracts say for which histories they stand.
 #[derive(Drop)]
 pub struct Ports {
-    count: u64,
+    pc: u32,
+    gp: u32,
+    sp: u32,
+    sizes: Sizes,
     a: u32,
     b: u32,
     c: u32,
-    queue: Vec<u8>,
-    deadline: u64,
 }
 
 impl Model for Ports {
     ghost use Rattle.psx_ports.specs.Stands.{Kept};
-    ghost use Rattle.std.specs.Prelude.{[]};
+
     ghost Value = { Kept };
-    ghost view = { λ p. record { a = p.a; b = p.b; c = p.c; now = p.count; deadline = p.deadline; console = [] } };
+
+    ghost view = { λ p. record { given = record { pc = p.pc; gp = p.gp; sp = p.sp; threads = p.sizes.threads; events = p.sizes.events }; a = p.a; b = p.b; c = p.c } };
 }
 
 fn table(a: u32) -> Table
@@ -51,68 +59,51 @@ fn table(a: u32) -> Table
 }
 
 impl Ports {
-    #[tactic(auto)]
-    pub fn new(alloc: Global, _pc: u32, _gp: u32, _sp: u32, _sizes: Sizes) -> Result<Ports, Memory>
-        requires threads { (4 ≤ _sizes.threads) × (_sizes.threads ≤ 16) }
-        requires events { (16 ≤ _sizes.events) × (_sizes.events ≤ 64) }
-        ensures stands { IfOk result (λ p. StandsFor p (record { given = record { pc = _pc; gp = _gp; sp = _sp; threads = _sizes.threads; events = _sizes.events }; events = []; now = 0 })) }
+    /// Ports as they are after reset: all 0 but for the start ports. It takes all memory that the ports ever need.
+    pub fn new(_alloc: Global, pc: u32, gp: u32, sp: u32, sizes: Sizes) -> Result<Ports, Memory>
+        requires threads { (4 ≤ sizes.threads) × (sizes.threads ≤ 16) }
+        requires events { (16 ≤ sizes.events) × (sizes.events ≤ 64) }
+        ensures { IfOk result (λ p. StandsFor p (record { given = record { pc = pc; gp = gp; sp = sp; threads = sizes.threads; events = sizes.events }; accesses = [] })) }
     {
-        Ok(Ports { count: 0, a: 0, b: 0, c: 0, queue: Vec::new(alloc), deadline: u64::MAX })
+        Ok(Ports {
+            pc,
+            gp,
+            sp,
+            sizes,
+            a: 0,
+            b: 0,
+            c: 0,
+        })
     }
-    pub fn raise(&mut self, line: u32)
-        requires { line ≤ 10 }
-        ensures stands { (h : History) → StandsFor self.old h → StandsFor self.new (then_event h (Raise h.now line)) }
-        ensures now { self.new.now ≡ self.old.now }
-        ensures queue { self.new.console ≡ self.old.console }
-    {
-        self.count += 0;
-    }
-    pub fn give(&mut self, byte: u8)
-        requires { length self.old.console < 65536 }
-        ensures stands { (h : History) → StandsFor self.old h → StandsFor self.new (then_event h (Give h.now byte)) }
-        ensures now { self.new.now ≡ self.old.now }
-        ensures room { length self.new.console ≤ length self.old.console + 1 }
-    {
-        self.count += 0;
-    }
-    #[tactic(auto, unfolding(crate::specs::History::line))]
-    #[inline]
+
+    /// Whether a line that isn't masked is pending.
     pub fn line(&self) -> bool
-        ensures { (h : History) → StandsFor self.now h → result ≡ History.line h }
+        ensures { (h : History) → StandsFor self.now h → result ≡ line h }
     {
         false
     }
-    #[inline]
-    pub fn deadline(&self) -> u64
-        ensures { result ≡ self.now.deadline }
-    {
-        self.deadline
-    }
-    pub fn tick(&mut self, count: u64)
-        requires { self.old.now ≤ count }
-        ensures stands { (h : History) → StandsFor self.old h → StandsFor self.new (at_count h count) }
-        ensures now { self.new.now ≡ count }
-        ensures queue { self.new.console ≡ self.old.console }
-    {
-        self.count = count;
-    }
-    #[tactic(auto, unfolding(crate::specs::History::answer))]
+
+    /// What a port answers to a read.
     pub fn read(&mut self, at: u32) -> u32
         requires { IsTrue (port at) }
         ensures value { (h : History) → StandsFor self.old h → result ≡ answer h at }
-        ensures stands { (h : History) → StandsFor self.old h → StandsFor self.new (then_event h (Read h.now at)) }
-        ensures now { self.new.now ≡ self.old.now }
-        ensures room { length self.new.console ≤ length self.old.console }
+        ensures stands { (h : History) (count : ℕ) → StandsFor self.old h → StandsFor self.new (then_access h (Read count at)) }
     {
-        self.count += 0;
-        0
+        match at {
+            START_PC => self.pc,
+            START_GP => self.gp,
+            START_SP => self.sp,
+            START_THREADS => self.sizes.threads,
+            START_EVENTS => self.sizes.events,
+            _ => 0,
+        }
     }
+
+    /// Writes to a port, and tells what it did beyond it.
     pub fn write(&mut self, at: u32, value: u32) -> PortDid
         requires { IsTrue (port at) }
         ensures did { (h : History) → StandsFor self.old h → result ≡ written h at value }
-        ensures stands { (h : History) → StandsFor self.old h → StandsFor self.new (then_event h (Write h.now at value)) }
-        ensures now { self.new.now ≡ self.old.now }
-        ensures queue { self.new.console ≡ self.old.console }
+        ensures stands { (h : History) (count : ℕ) → StandsFor self.old h → StandsFor self.new (then_access h (Write count at value)) }
     {
         match at {
             CONSOLE_DATA => return PortDid::Tty((value % 0x100) as u8),
@@ -147,3 +138,5 @@ impl Ports {
     }
 }
 
+#[cfg(test)]
+mod tests;
