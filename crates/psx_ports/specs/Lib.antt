@@ -1,3 +1,6 @@
 pub mod HaltCodes
+pub mod Counter
 pub mod History
+pub mod Interrupts
+pub mod Laps
 pub mod Stands
