@@ -1,9 +1,9 @@
 //! One root counter (PSX-SPX, Timers). It makes no turn by itself: its value at a count is reckoned from its last access, and so is the next turn that raises its line.
 ghost use Rattle.std.specs.Prelude.{◌≡◌, ℕ, ◌+◌, ◌-◌, ◌*◌, ◌/◌, ◌%◌, ◌^◌, ◌<◌, ◌≤◌, List, [], ◌∷◌, Bool, not, ◌&&◌, ◌||◌, nat_le, if◌then◌else◌, IfSome, IfNone, false};
 ghost use Rattle.psx_ports.specs.Counter as Definitions;
-ghost use Rattle.psx_ports.specs.Counter.{Act, SetValue, SetMode, SetTarget, TakeMode, bit, clock, happens, mode_word, asks, meets, raises};
+ghost use Rattle.psx_ports.specs.Counter.{Act, SetValue, SetMode, SetTarget, TakeMode, bit, clock, happens, mode_word, meets, meets_target, meets_top, raises};
 ghost use Rattle.psx_ports.specs.Laps.{limit_of, IsFirstMeeting};
-ghost use Rattle.psx_ports.specs.Stands.{Follows, IsAhead};
+ghost use Rattle.psx_ports.specs.KeptCounter.{Follows, IsAhead, raises_line};
 
 use crate::laps::{run, turns_to};
 use std::marker::Model;
@@ -28,7 +28,7 @@ pub struct Counter {
 
 impl Model for Counter {
     ghost use Rattle.std.specs.Prelude.{ℕ, ◌<◌, ◌^◌};
-    ghost use Rattle.psx_ports.specs.Stands.{KeptCounter};
+    ghost use Rattle.psx_ports.specs.KeptCounter.{KeptCounter};
 
     ghost Value = { KeptCounter };
 
@@ -140,6 +140,27 @@ impl Counter {
         self.first(x).unwrap_or(u64::MAX)
     }
 
+    // Whether a turn up to a count brought the value to the target.
+    fn met_target(&self, count: u64) -> bool
+        ensures { result ≡ happens (meets_target self.now.number self.now.setting) self.now.setting.since count }
+    {
+        self.target != 0 && self.met(self.target, count)
+    }
+
+    // Whether a turn asks for an interrupt, by whether it reached the target and FFFFh.
+    fn asks(&self, target: bool, top: bool) -> bool
+        ensures { result ≡ ((bit self.now.setting.mode 4 && target) || (bit self.now.setting.mode 5 && top)) }
+    {
+        has(self.mode, 4) && target || has(self.mode, 5) && top
+    }
+
+    // Whether the next interrupt that is asked for raises the line.
+    fn is_armed(&self) -> bool
+        ensures { result ≡ (bit self.now.setting.mode 6 || not self.now.asked) }
+    {
+        has(self.mode, 6) || !self.asked
+    }
+
     // Makes the turns up to a count, and tells whether one raised the line.
     fn settle(&mut self, count: u64) -> bool
         requires { self.old.setting.since ≤ count }
@@ -148,16 +169,52 @@ impl Counter {
         ensures since { self.new.setting.since ≡ count }
         ensures number { self.new.number ≡ self.old.number }
     {
-        let target = self.target != 0 && self.met(self.target, count);
+        let target = self.met_target(count);
         let top = self.met(0xFFFF, count);
-        let asks = has(self.mode, 4) && target || has(self.mode, 5) && top;
-        let raises = asks && (has(self.mode, 6) || !self.asked);
+        let asks = self.asks(target, top);
+        let raises = asks & self.is_armed();
         self.value = self.value_at(count);
         self.since = count;
-        self.reached_target = self.reached_target || target;
-        self.reached_top = self.reached_top || top;
-        self.asked = self.asked || asks;
+        self.reached_target |= target;
+        self.reached_top |= top;
+        self.asked |= asks;
         raises
+    }
+
+    // A count before which no turn asks for an interrupt at the target.
+    fn before_target(&self) -> u64
+        ensures quiet { (n : ℕ) → self.now.setting.since < n → n < result → (bit self.now.setting.mode 4 && meets_target self.now.number self.now.setting n) ≡ false }
+        ensures later { self.now.setting.since < 2 ^ 64 - 1 → self.now.setting.since < result }
+    {
+        if has(self.mode, 4) && self.target != 0 {
+            self.before(self.target)
+        } else {
+            u64::MAX
+        }
+    }
+
+    // A count before which no turn asks for one at FFFFh.
+    fn before_top(&self) -> u64
+        ensures quiet { (n : ℕ) → self.now.setting.since < n → n < result → (bit self.now.setting.mode 5 && meets_top self.now.number self.now.setting n) ≡ false }
+        ensures later { self.now.setting.since < 2 ^ 64 - 1 → self.now.setting.since < result }
+    {
+        if has(self.mode, 5) {
+            self.before(0xFFFF)
+        } else {
+            u64::MAX
+        }
+    }
+
+    // A count before which no turn raises the line.
+    fn before_raise(&self) -> u64
+        ensures quiet { (n : ℕ) → self.now.setting.since < n → n < result → raises_line self.now n ≡ false }
+        ensures later { self.now.setting.since < 2 ^ 64 - 1 → self.now.setting.since < result }
+    {
+        if self.is_armed() {
+            self.before_target().min(self.before_top())
+        } else {
+            u64::MAX
+        }
     }
 
     // Looks for the next turn that raises the line.
@@ -166,15 +223,7 @@ impl Counter {
         ensures ahead { IsAhead self.new }
         ensures later { self.new.setting.since < 2 ^ 64 - 1 → self.new.setting.since < self.new.next }
     {
-        self.next = u64::MAX;
-        if has(self.mode, 6) || !self.asked {
-            if has(self.mode, 4) && self.target != 0 {
-                self.next = self.before(self.target);
-            }
-            if has(self.mode, 5) {
-                self.next = self.next.min(self.before(0xFFFF));
-            }
-        }
+        self.next = self.before_raise();
     }
 
     /// No turn before this count raises the line; 2^64 - 1 where none is known to.

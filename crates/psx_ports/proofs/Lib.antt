@@ -1,0 +1,4 @@
+pub mod Happens
+pub mod Reckoning
+pub mod Following
+pub mod Looking
