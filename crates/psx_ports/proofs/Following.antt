@@ -1,7 +1,7 @@
 -- A counter that keeps no accesses follows them: when its turns are made, and at each access.
 use Rattle.std.proofs.Common.{◌≡◌, ℕ, zero, suc, ◌+◌, ◌-◌, ◌*◌, ◌/◌, ◌%◌, ◌^◌, ◌≤◌, ◌<◌, Bool, true, false, ◌⊎◌, inl, inr, List, [], ◌∷◌, refl, sym, ap, ap₂, subst, ◌∙◌, arith}
-use Rattle.std.specs.Prelude.{not, ◌&&◌, ◌||◌, nat_eq}
-use Rattle.psx_ports.specs.Counter.{Setting, Act, SetValue, SetMode, SetTarget, TakeMode, time, bit, happens, clock, value_at, after_turns, setting, meets, meets_target, meets_top, asks, uses_mode, writes_mode, since_last, reached_target, reached_top, asked, raises}
+use Rattle.std.specs.Prelude.{not, ◌&&◌, ◌||◌, nat_eq, if◌then◌else◌}
+use Rattle.psx_ports.specs.Counter.{Setting, Act, SetValue, SetMode, SetTarget, TakeMode, time, bit, happens, clock, value_at, after_turns, setting, meets, meets_target, meets_top, asks, uses_mode, writes_mode, since_last, reached_target, reached_top, mode_word, asked, raises}
 use Rattle.psx_ports.specs.Laps.{limit_of}
 use Rattle.psx_ports.specs.KeptCounter.{KeptCounter, raises_line, Follows, IsAhead}
 use Rattle.psx_ports.proofs.Happens.{happens-empty, happens-split, happens-same, happens-never, happens-and, happens-or, happens-first}
@@ -222,3 +222,16 @@ module _ (k : KeptCounter) (acts : List Act) (now next : ℕ) (f : Follows k act
   follows-take = follows-act k acts (TakeMode now) now k.setting false false k.asked next f at refl agrees at refl refl refl where
     agrees : (n : ℕ) → now ≤ n → Agrees k.number k.setting (setting k.number (TakeMode now ∷ acts)) n
     agrees n h = follows-agrees k acts now n f h
+
+-- the mode as it is read
+pub word-kept : (k : KeptCounter) (acts : List Act) (now : ℕ) → Follows k acts now → k.setting.since ≡ now
+    → k.setting.mode + (if k.target then 0x800 else 0) + (if k.top then 0x1000 else 0) ≡ mode_word k.number acts now
+word-kept k acts now f at =
+    let target = flag-now (meets_target k.number k.setting) k.target (reached_target k.number acts now) k.setting.since now at (f.reached_target now (omega arith)) in
+    let top = flag-now (meets_top k.number k.setting) k.top (reached_top k.number acts now) k.setting.since now at (f.reached_top now (omega arith)) in
+    λ i. f.mode i + (if target i then 0x800 else 0) + (if top i then 0x1000 else 0)
+
+pub word-open : (k k' : KeptCounter) (acts : List Act) (now t : ℕ) → k' ≡ k → k.number ≡ t → Follows k acts now → k.setting.since ≡ now
+    → k'.setting.mode + (if k'.target then 0x800 else 0) + (if k'.top then 0x1000 else 0) ≡ mode_word t acts now
+word-open k k' acts now t same number f at =
+    ap (λ (k : KeptCounter). k.setting.mode + (if k.target then 0x800 else 0) + (if k.top then 0x1000 else 0)) same ∙ word-kept k acts now f at ∙ ap (λ t. mode_word t acts now) number

@@ -34,7 +34,7 @@ impl Model for Counter {
 
     ghost view = { λ c. record { number = c.number; setting = record { mode = c.mode; target = c.target; value = c.value; since = c.since }; target = c.reached_target; top = c.reached_top; asked = c.asked; next = c.next } };
 
-    ghost invariant = { λ c. (c.target < 2 ^ 16) × (c.value < 2 ^ 16) };
+    ghost invariant = { λ c. (c.mode < 2 ^ 10) × (c.target < 2 ^ 16) × (c.value < 2 ^ 16) };
 }
 
 // Whether a bit of a word is set.
@@ -43,6 +43,13 @@ fn has(word: u32, n: u32) -> bool
     ensures { result ≡ bit word n }
 {
     word >> n & 1 == 1
+}
+
+// A mask, or 0.
+fn mask(is_set: bool, mask: u32) -> u32
+    ensures { result ≡ (if is_set then mask else 0) }
+{
+    if is_set { mask } else { 0 }
 }
 
 impl Counter {
@@ -266,9 +273,7 @@ impl Counter {
         ensures later { count < 2 ^ 64 - 1 → count < self.new.next }
     {
         self.settle(count);
-        let target = if self.reached_target { 0x800 } else { 0 };
-        let top = if self.reached_top { 0x1000 } else { 0 };
-        let word = self.mode + target + top;
+        let word = self.mode + mask(self.reached_target, 0x800) + mask(self.reached_top, 0x1000);
         self.reached_target = false;
         self.reached_top = false;
         self.look_ahead();

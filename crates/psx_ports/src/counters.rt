@@ -74,6 +74,7 @@ impl Counters {
     }
 
     /// What the port of a counter answers at a count up to which all turns are made, and 0 for another port.
+    #[tactic(auto, unfolding(crate::specs::History::counters_answer))]
     pub fn read(&mut self, count: u64, at: u32) -> u32
         requires { AreSince self.old count }
         ensures value { (events : List Event) → StandCounters self.old events count → result ≡ counters_answer events count at }
