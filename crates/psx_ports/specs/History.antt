@@ -62,6 +62,10 @@ mode_port t = COUNTERS + 0x10 * t + 4
 abbrev pub target_port : ℕ → ℕ
 target_port t = COUNTERS + 0x10 * t + 8
 
+-- whether an address is in the range of these ports
+abbrev pub is_counter_port : ℕ → Bool
+is_counter_port at = nat_le COUNTERS at && nat_le at (COUNTERS + 0x28)
+
 -- the accesses to counter t, with an event more
 abbrev pub then_act : ℕ → Event → List Act → List Act
 then_act t (Read count at) acts = if nat_eq at (mode_port t) then TakeMode count ∷ acts else acts

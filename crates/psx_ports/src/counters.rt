@@ -1,5 +1,6 @@
 //! The three root counters, by the addresses of their ports.
 ghost use Rattle.std.specs.Prelude.{◌≡◌, ℕ, ◌-◌, ◌^◌, ◌<◌, ◌≤◌, [], ◌∷◌, List, min};
+ghost use Rattle.psx_ports.specs.History;
 ghost use Rattle.psx_ports.specs.History.{Event, Read, Write, turned, word_of, counters_answer};
 ghost use Rattle.psx_ports.specs.Stands.{StandCounters, AreSince, least_next};
 
@@ -24,6 +25,13 @@ const VALUE_2: u32 = COUNTERS + 0x20;
 const MODE_2: u32 = COUNTERS + 0x24;
 
 const TARGET_2: u32 = COUNTERS + 0x28;
+
+/// Whether an address is in the range of the counters' ports.
+pub fn is_counter_port(at: u32) -> bool
+    ensures { result ≡ History.is_counter_port at }
+{
+    at >= VALUE_0 && at <= TARGET_2
+}
 
 /// Root counters 0 to 2.
 #[derive(Drop)]

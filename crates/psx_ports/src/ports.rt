@@ -1,18 +1,18 @@
 //! All ports together, by their addresses.
-ghost use Rattle.std.specs.Prelude.{◌≡◌, ℕ, ◌+◌, ◌-◌, ◌^◌, ◌≤◌, ◌<◌, [], ◌∷◌, ◌++◌, length, IfOk, IsTrue};
+ghost use Rattle.std.specs.Prelude.{◌≡◌, ◌≢◌, ℕ, ◌+◌, ◌-◌, ◌^◌, ◌≤◌, ◌<◌, [], ◌∷◌, ◌++◌, length, IfOk, IsTrue};
 ghost use Rattle.psx_base.specs.PortAddresses.{port};
 ghost use Rattle.psx_ports.specs.History;
-ghost use Rattle.psx_ports.specs.History.{History, Read, Write, Raise, Give, then_event, at_count, answer, written};
+ghost use Rattle.psx_ports.specs.History.{History, Read, Write, Raise, Give, then_event, at_count, answer, written, is_counter_port};
 ghost use Rattle.psx_ports.specs.Stands.{StandsFor, LineStays, DeadlineIsLater};
 
 use crate::PortDid;
 use crate::console::{Console, ROOM};
-use crate::counters::Counters;
+use crate::counters::{Counters, is_counter_port};
 use crate::halts::Halts;
 use crate::interrupts::Interrupts;
 use psx_base::ports::{
-    CONSOLE_DATA, CONSOLE_STATUS, HALT, HALT_A, HALT_B, HALT_C, I_MASK, I_STAT, START_EVENTS,
-    START_GP, START_PC, START_SP, START_THREADS,
+    CONSOLE_DATA, CONSOLE_STATUS, HALT, I_MASK, I_STAT, START_EVENTS, START_GP, START_PC, START_SP,
+    START_THREADS,
 };
 use psx_base::{Memory, Sizes};
 use std::alloc::Global;
@@ -151,6 +151,25 @@ impl Ports {
         self.deadline = self.counters.next();
     }
 
+    // What a port answers whose read changes nothing: none of the counters, nor the console's data port.
+    fn look(&self, at: u32) -> u32
+        requires data { at ≢ CONSOLE_DATA }
+        requires counter { ¬ IsTrue (is_counter_port at) }
+        ensures { (h : History) → StandsFor self.now h → result ≡ answer h at }
+    {
+        match at {
+            I_STAT => self.interrupts.pending,
+            I_MASK => self.interrupts.mask,
+            CONSOLE_STATUS => self.console.status(),
+            START_PC => self.pc,
+            START_GP => self.gp,
+            START_SP => self.sp,
+            START_THREADS => self.sizes.threads,
+            START_EVENTS => self.sizes.events,
+            _ => 0,
+        }
+    }
+
     /// What a port answers to a read. A read of the console's data port takes the byte that it gives, and a read of a counter's mode clears its bits 11 and 12.
     pub fn read(&mut self, at: u32) -> u32
         requires { IsTrue (port at) }
@@ -159,22 +178,15 @@ impl Ports {
         ensures now { self.new.now ≡ self.old.now }
         ensures held { length self.new.console ≤ length self.old.console }
     {
-        match at {
-            I_STAT => self.interrupts.pending,
-            I_MASK => self.interrupts.mask,
-            CONSOLE_STATUS => self.console.status(),
-            CONSOLE_DATA => self.console.take(),
-            START_PC => self.pc,
-            START_GP => self.gp,
-            START_SP => self.sp,
-            START_THREADS => self.sizes.threads,
-            START_EVENTS => self.sizes.events,
-            _ => {
-                let value = self.counters.read(self.count, at);
-                self.deadline = self.counters.next();
-                value
-            }
+        if at == CONSOLE_DATA {
+            return self.console.take();
         }
+        if is_counter_port(at) {
+            let value = self.counters.read(self.count, at);
+            self.deadline = self.counters.next();
+            return value;
+        }
+        self.look(at)
     }
 
     /// Writes to a port, and tells what it did beyond it.
@@ -185,18 +197,17 @@ impl Ports {
         ensures now { self.new.now ≡ self.old.now }
         ensures console { self.new.console ≡ self.old.console }
     {
+        if is_counter_port(at) {
+            self.counters.write(self.count, at, value);
+            self.deadline = self.counters.next();
+            return PortDid::Quiet;
+        }
         match at {
             I_STAT => self.interrupts.acknowledge(value),
             I_MASK => self.interrupts.set_mask(value),
             CONSOLE_DATA => return PortDid::Tty((value % 0x100) as u8),
             HALT => return self.halts.halt(value),
-            HALT_A => self.halts.a = value,
-            HALT_B => self.halts.b = value,
-            HALT_C => self.halts.c = value,
-            _ => {
-                self.counters.write(self.count, at, value);
-                self.deadline = self.counters.next();
-            }
+            _ => self.halts.write(at, value),
         }
         PortDid::Quiet
     }
