@@ -6,3 +6,4 @@ pub mod Words
 pub mod Pending
 pub mod Standing
 pub mod Events
+pub mod Answering

@@ -2,6 +2,7 @@
 use Rattle.std.proofs.Common.{◌≡◌, ◌≢◌, ℕ, zero, suc, ◌+◌, ◌-◌, ◌*◌, ◌/◌, ◌%◌, ◌^◌, ◌≤◌, ◌<◌, Bool, true, false, ◌⊎◌, inl, inr, refl, sym, ap, ap₂, subst, ◌∙◌, min, max, arith, pow-suc}
 use Rattle.std.specs.Prelude.{not, ◌&&◌, ◌||◌, nat_eq, bit_and, bit_or, if◌then◌else◌}
 use Rattle.std.specs.Int.{bit_at}
+use native.Mathlib.Nat.{pow-le-pow_right}
 use Rattle.std.proofs.lemmas.Bool.{cases_lt}
 use Rattle.std.proofs.lemmas.Bool.Decides.{eqb_tells}
 use Rattle.std.proofs.lemmas.Nat.Bits.{bit_at_and, bit_at_or, bit_at-pow_same, bit_at-pow_other, bit_at-lt, bit_at_above, bit_at_cat_low, bit_at_cat_high, same_from_bits}
@@ -81,3 +82,7 @@ word-raise p line n within = same n (bit_or (word_of p n) (2 ^ line)) (λ k. p k
 pub word-same : (p q : ℕ → Bool) (n : ℕ) → ((k : ℕ) → k < n → p k ≡ q k) → word_of p n ≡ word_of q n
 word-same p q zero h = refl
 word-same p q (suc n) h = λ i. word-same p q n (λ k l. h k (omega arith)) i + (if h n (omega arith) i then 2 ^ n else 0)
+
+-- 1 << line
+pub shifted : (line : ℕ) → line ≤ 10 → 1 * 2 ^ line % 2 ^ 32 ≡ 2 ^ line
+shifted line h = let low : 2 ^ line ≤ 2 ^ 10 = pow-le-pow_right (omega arith) h in omega arith

@@ -1,5 +1,5 @@
 //! All ports together, by their addresses.
-ghost use Rattle.std.specs.Prelude.{◌≡◌, ◌≢◌, ℕ, ◌+◌, ◌-◌, ◌^◌, ◌≤◌, ◌<◌, [], ◌∷◌, ◌++◌, length, IfOk, IsTrue};
+ghost use Rattle.std.specs.Prelude.{◌≡◌, ◌≢◌, false, ℕ, ◌+◌, ◌-◌, ◌^◌, ◌≤◌, ◌<◌, [], ◌∷◌, ◌++◌, length, IfOk, IsTrue};
 ghost use Rattle.psx_base.specs.PortAddresses.{port};
 ghost use Rattle.psx_ports.specs.History;
 ghost use Rattle.psx_ports.specs.History.{History, Read, Write, Raise, Give, then_event, at_count, answer, written, is_counter_port};
@@ -152,9 +152,10 @@ impl Ports {
     }
 
     // What a port answers whose read changes nothing: none of the counters, nor the console's data port.
+    #[tactic(auto, unfolding(crate::specs::History::answer))]
     fn look(&self, at: u32) -> u32
         requires data { at ≢ CONSOLE_DATA }
-        requires counter { ¬ IsTrue (is_counter_port at) }
+        requires counter { is_counter_port at ≡ false }
         ensures { (h : History) → StandsFor self.now h → result ≡ answer h at }
     {
         match at {
