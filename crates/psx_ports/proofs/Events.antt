@@ -28,8 +28,8 @@ pub within : (at p : ℕ) → is_counter_port at ≡ true → (p < COUNTERS) ⊎
 within at p inside out = elim (eqb_tells at p) [
   | inr e ↦ e.0
   | inl e ↦ elim out [
-    | inl low ↦ elim (leb_tells COUNTERS at) [ | inl f ↦ absurd (omega arith) | inr f ↦ let outside : is_counter_port at ≡ false = ap (λ b. b && nat_le at (COUNTERS + 0x28)) f.0 in absurd (cc) ]
-    | inr high ↦ elim (leb_tells at (COUNTERS + 0x28)) [ | inl f ↦ absurd (omega arith) | inr f ↦ let outside : is_counter_port at ≡ false = ap₂ ◌&&◌ (le-leb COUNTERS at (omega arith)) f.0 in absurd (cc) ]
+    | inl low ↦ elim (leb_tells COUNTERS at) [ inl f ↦ absurd (omega arith) | inr f ↦ let outside : is_counter_port at ≡ false = ap (λ b. b && nat_le at (COUNTERS + 0x28)) f.0 in absurd (cc) ]
+    | inr high ↦ elim (leb_tells at (COUNTERS + 0x28)) [ inl f ↦ absurd (omega arith) | inr f ↦ let outside : is_counter_port at ≡ false = ap₂ ◌&&◌ (le-leb COUNTERS at (omega arith)) f.0 in absurd (cc) ]
   ]
 ]
 
@@ -39,7 +39,7 @@ read-apart at count t acts outside h = ap (λ b. if b then TakeMode count ∷ ac
 write-apart : (at count value t : ℕ) (acts : List Act) → is_counter_port at ≡ false → t ≤ 2 → then_act t (Write count at value) acts ≡ acts
 write-apart at count value t acts outside h =
     ap (λ b. if b then SetValue count value ∷ acts else (if nat_eq at (mode_port t) then SetMode count value ∷ acts else (if nat_eq at (target_port t) then SetTarget count value ∷ acts else acts)))
-      (apart at (value_port t) outside (omega arith) (omega arith))
+    (apart at (value_port t) outside (omega arith) (omega arith))
     ∙ ap (λ b. if b then SetMode count value ∷ acts else (if nat_eq at (target_port t) then SetTarget count value ∷ acts else acts)) (apart at (mode_port t) outside (omega arith) (omega arith))
     ∙ ap (λ b. if b then SetTarget count value ∷ acts else acts) (apart at (target_port t) outside (omega arith) (omega arith))
 
@@ -63,55 +63,85 @@ counters-apart k events now event s same = record {
 pub stands-raised : (k : Kept) (h : History) (line : ℕ) → StandsFor k h → line ≤ 10
     → StandsFor (record k { interrupts = with_pending k.interrupts (bit_or k.interrupts.pending (2 ^ line)) }) (then_event h (Raise h.now line))
 stands-raised k h line s low = record {
-  given = s.given; a = s.a; b = s.b; c = s.c; console = s.console;
+  given = s.given;
+  a = s.a;
+  b = s.b;
+  c = s.c;
+  console = s.console;
   pending = ap (λ stat. bit_or stat (2 ^ line)) s.pending ∙ sym (stat-raised h line low);
   mask = s.mask;
   line = refl;
   counters = counters-apart k.counters h.events h.now (Raise h.now line) s.counters (λ t acts l. refl);
-  now = s.now; latest = omega arith; deadline = s.deadline;
+  now = s.now;
+  latest = omega arith;
+  deadline = s.deadline;
 }
 
 pub stands-given : (k : Kept) (h : History) (byte : ℕ) → StandsFor k h → StandsFor (record k { console = k.console ++ byte ∷ [] }) (then_event h (Give h.now byte))
 stands-given k h byte s = record {
-  given = s.given; a = s.a; b = s.b; c = s.c;
+  given = s.given;
+  a = s.a;
+  b = s.b;
+  c = s.c;
   console = ap (λ bytes. bytes ++ byte ∷ []) s.console;
   pending = s.pending ∙ sym (stat-same h (Give h.now byte) refl (λ n b. refl));
-  mask = s.mask; line = s.line;
+  mask = s.mask;
+  line = s.line;
   counters = counters-apart k.counters h.events h.now (Give h.now byte) s.counters (λ t acts l. refl);
-  now = s.now; latest = omega arith; deadline = s.deadline;
+  now = s.now;
+  latest = omega arith;
+  deadline = s.deadline;
 }
 
 -- ---- reads
 
 pub stands-looked : (k : Kept) (h : History) (at : ℕ) → StandsFor k h → is_counter_port at ≡ false → nat_eq at CONSOLE_DATA ≡ false → StandsFor k (then_event h (Read h.now at))
 stands-looked k h at s outside other = record {
-  given = s.given; a = s.a; b = s.b; c = s.c;
+  given = s.given;
+  a = s.a;
+  b = s.b;
+  c = s.c;
   console = s.console ∙ sym (ap (λ b. if b then drop 1 (due h.events) else due h.events) other);
   pending = s.pending ∙ sym (stat-same h (Read h.now at) refl (λ n b. refl));
-  mask = s.mask; line = s.line;
+  mask = s.mask;
+  line = s.line;
   counters = counters-apart k.counters h.events h.now (Read h.now at) s.counters (λ t acts l. read-apart at h.now t acts outside l);
-  now = s.now; latest = omega arith; deadline = s.deadline;
+  now = s.now;
+  latest = omega arith;
+  deadline = s.deadline;
 }
 
 pub stands-taken : (k : Kept) (h : History) → StandsFor k h → StandsFor (record k { console = drop 1 k.console }) (then_event h (Read h.now CONSOLE_DATA))
 stands-taken k h s = record {
-  given = s.given; a = s.a; b = s.b; c = s.c;
+  given = s.given;
+  a = s.a;
+  b = s.b;
+  c = s.c;
   console = ap (drop 1) s.console;
   pending = s.pending ∙ sym (stat-same h (Read h.now CONSOLE_DATA) refl (λ n b. refl));
-  mask = s.mask; line = s.line;
+  mask = s.mask;
+  line = s.line;
   counters = counters-apart k.counters h.events h.now (Read h.now CONSOLE_DATA) s.counters (λ t acts l. read-apart CONSOLE_DATA h.now t acts refl l);
-  now = s.now; latest = omega arith; deadline = s.deadline;
+  now = s.now;
+  latest = omega arith;
+  deadline = s.deadline;
 }
 
 pub stands-read : (k : Kept) (h : History) (at deadline : ℕ) (counters : KeptCounters) → StandsFor k h → is_counter_port at ≡ true
     → StandCounters counters (Read h.now at ∷ h.events) h.now → deadline ≡ least_next counters → StandsFor (record k { counters = counters; deadline = deadline }) (then_event h (Read h.now at))
 stands-read k h at deadline counters s inside stands least = record {
-  given = s.given; a = s.a; b = s.b; c = s.c;
+  given = s.given;
+  a = s.a;
+  b = s.b;
+  c = s.c;
   console = s.console ∙ sym (ap (λ b. if b then drop 1 (due h.events) else due h.events) (within at CONSOLE_DATA inside (inr (omega arith))));
   pending = s.pending ∙ sym (stat-same h (Read h.now at) refl (λ n b. refl));
-  mask = s.mask; line = s.line;
+  mask = s.mask;
+  line = s.line;
   counters = stands;
-  now = s.now; latest = omega arith; deadline = least;
+  now = s.now;
+  latest = omega arith;
+  deadline = least;
 }
 
 -- ---- writes
@@ -135,27 +165,43 @@ stands-written k h at value deadline counters s inside stands least = record {
   mask = s.mask ∙ ap (λ mask. mask % 2 ^ 11) (sym (kept at I_MASK value (last_written h.events I_MASK) (within at I_MASK inside (inl (omega arith)))));
   line = s.line;
   counters = stands;
-  now = s.now; latest = omega arith; deadline = least;
+  now = s.now;
+  latest = omega arith;
+  deadline = least;
 }
 
 pub stands-acknowledged : (k : Kept) (h : History) (value : ℕ) → StandsFor k h
     → StandsFor (record k { interrupts = with_pending k.interrupts (bit_and k.interrupts.pending value) }) (then_event h (Write h.now I_STAT value))
 stands-acknowledged k h value s = record {
-  given = s.given; a = s.a; b = s.b; c = s.c; console = s.console;
+  given = s.given;
+  a = s.a;
+  b = s.b;
+  c = s.c;
+  console = s.console;
   pending = ap (λ stat. bit_and stat value) s.pending ∙ sym (stat-acknowledged h value);
-  mask = s.mask; line = refl;
+  mask = s.mask;
+  line = refl;
   counters = counters-apart k.counters h.events h.now (Write h.now I_STAT value) s.counters (λ t acts l. write-apart I_STAT h.now value t acts refl l);
-  now = s.now; latest = omega arith; deadline = s.deadline;
+  now = s.now;
+  latest = omega arith;
+  deadline = s.deadline;
 }
 
 pub stands-masked : (k : Kept) (h : History) (value : ℕ) → StandsFor k h
     → StandsFor (record k { interrupts = with_mask k.interrupts (value % 2 ^ 11) }) (then_event h (Write h.now I_MASK value))
 stands-masked k h value s = record {
-  given = s.given; a = s.a; b = s.b; c = s.c; console = s.console;
+  given = s.given;
+  a = s.a;
+  b = s.b;
+  c = s.c;
+  console = s.console;
   pending = s.pending ∙ sym (stat-written h I_MASK value refl);
-  mask = refl; line = refl;
+  mask = refl;
+  line = refl;
   counters = counters-apart k.counters h.events h.now (Write h.now I_MASK value) s.counters (λ t acts l. write-apart I_MASK h.now value t acts refl l);
-  now = s.now; latest = omega arith; deadline = s.deadline;
+  now = s.now;
+  latest = omega arith;
+  deadline = s.deadline;
 }
 
 -- the halt words, which the other ports leave as they are
@@ -172,5 +218,7 @@ stands-kept k h at value a b c s outside stat mask is_a is_b is_c = record {
   mask = s.mask ∙ ap (λ mask. mask % 2 ^ 11) (sym (kept at I_MASK value (last_written h.events I_MASK) mask));
   line = s.line;
   counters = counters-apart k.counters h.events h.now (Write h.now at value) s.counters (λ t acts l. write-apart at h.now value t acts outside l);
-  now = s.now; latest = omega arith; deadline = s.deadline;
+  now = s.now;
+  latest = omega arith;
+  deadline = s.deadline;
 }

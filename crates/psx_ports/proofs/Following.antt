@@ -62,11 +62,11 @@ module _ (k : KeptCounter) (small : k.setting.value ≤ 0xFFFF) (low : k.setting
         target = f.target;
         value = λ n l. (settled-agrees now n from l).value ∙ f.value n (omega arith);
         reached_target = λ n l. flag-settled (meets_target t k.setting) (meets_target t (settled k now).setting) k.target k.setting.since now n from l
-          (λ c a b. target-as t (settled k now).setting k.setting c (settled-agrees now c from (omega arith))) ∙ f.reached_target n (omega arith);
+            (λ c a b. target-as t (settled k now).setting k.setting c (settled-agrees now c from (omega arith))) ∙ f.reached_target n (omega arith);
         reached_top = λ n l. flag-settled (meets_top t k.setting) (meets_top t (settled k now).setting) k.top k.setting.since now n from l
-          (λ c a b. meets-as t 0xFFFF (settled k now).setting k.setting c (settled-agrees now c from (omega arith))) ∙ f.reached_top n (omega arith);
+            (λ c a b. meets-as t 0xFFFF (settled k now).setting k.setting c (settled-agrees now c from (omega arith))) ∙ f.reached_top n (omega arith);
         asked = λ n l. flag-settled (asks t k.setting) (asks t (settled k now).setting) k.asked k.setting.since now n from l
-          (λ c a b. asks-as t (settled k now).setting k.setting c (settled-agrees now c from (omega arith))) ∙ f.asked n (omega arith);
+            (λ c a b. asks-as t (settled k now).setting k.setting c (settled-agrees now c from (omega arith))) ∙ f.asked n (omega arith);
         quiet = λ n a b. absurd (omega arith);
       }
 
@@ -104,9 +104,9 @@ pub settled-open : (k k' : KeptCounter) → k' ≡ k → k'.setting.value ≤ 0x
     → Follows (record k' { setting = record k'.setting { value = value; since = now }; target = k'.target || target; top = k'.top || top; asked = k'.asked || asking }) acts now
 settled-open k k' same small low acts m now value target top asking f h is_value is_target is_top is_asking =
     let all : asking ≡ happens (asks k.number k.setting) k.setting.since now =
-      is_asking ∙ (λ i. (bit k.setting.mode 4 && is_target i) || (bit k.setting.mode 5 && is_top i)) ∙ sym (happens-asks k.number k.setting k.setting.since now) in
+    is_asking ∙ (λ i. (bit k.setting.mode 4 && is_target i) || (bit k.setting.mode 5 && is_top i)) ∙ sym (happens-asks k.number k.setting k.setting.since now) in
     let new : record k { setting = record k.setting { value = value; since = now }; target = k.target || target; top = k.top || top; asked = k.asked || asking } ≡ settled k now =
-      λ i. record k { setting = record k.setting { value = is_value i; since = now }; target = k.target || is_target i; top = k.top || is_top i; asked = k.asked || all i } in
+    λ i. record k { setting = record k.setting { value = is_value i; since = now }; target = k.target || is_target i; top = k.top || is_top i; asked = k.asked || all i } in
     let P : KeptCounter → Type 0 = λ k. Follows (record k { setting = record k.setting { value = value; since = now }; target = k.target || target; top = k.top || top; asked = k.asked || asking }) acts now in
     let Q : KeptCounter → Type 0 = λ k. Follows k acts now in
     subst P (sym same) (subst Q (sym new) (follows-settled k (subst (λ (k : KeptCounter). k.setting.value ≤ 0xFFFF) same small) (subst (λ (k : KeptCounter). k.setting.target ≤ 0xFFFF) same low) acts m now f h))
@@ -186,11 +186,11 @@ follows-act k acts act now s target top asked' next f at when agrees since is_ta
       target = (agrees now (omega arith)).target;
       value = λ n a. (agrees n a).value;
       reached_target = λ n a. flag-act (meets_target t s) (meets_target t (setting t (act ∷ acts))) target (not (uses_mode act) && reached_target t acts (time act)) s.since (time act) n here
-        (λ c b. target-as t s (setting t (act ∷ acts)) c (agrees c (later c b))) (is_target ∙ ap (λ b. not (uses_mode act) && b) kept_target);
+          (λ c b. target-as t s (setting t (act ∷ acts)) c (agrees c (later c b))) (is_target ∙ ap (λ b. not (uses_mode act) && b) kept_target);
       reached_top = λ n a. flag-act (meets_top t s) (meets_top t (setting t (act ∷ acts))) top (not (uses_mode act) && reached_top t acts (time act)) s.since (time act) n here
-        (λ c b. meets-as t 0xFFFF s (setting t (act ∷ acts)) c (agrees c (later c b))) (is_top ∙ ap (λ b. not (uses_mode act) && b) kept_top);
+          (λ c b. meets-as t 0xFFFF s (setting t (act ∷ acts)) c (agrees c (later c b))) (is_top ∙ ap (λ b. not (uses_mode act) && b) kept_top);
       asked = λ n a. flag-act (asks t s) (asks t (setting t (act ∷ acts))) asked' (not (writes_mode act) && asked t acts (time act)) s.since (time act) n here
-        (λ c b. asks-as t s (setting t (act ∷ acts)) c (agrees c (later c b))) (is_asked ∙ ap (λ b. not (writes_mode act) && b) kept_asked);
+          (λ c b. asks-as t s (setting t (act ∷ acts)) c (agrees c (later c b))) (is_asked ∙ ap (λ b. not (writes_mode act) && b) kept_asked);
       quiet = λ n a b. absurd (omega arith);
     }
 

@@ -7,3 +7,4 @@ pub mod Pending
 pub mod Standing
 pub mod Events
 pub mod Answering
+pub mod Deadlines

@@ -57,7 +57,7 @@ pub stat-stays : (h : History) (now : ℕ) → last_moment h.events ≤ h.now �
 unfolding i_stat
 stat-stays h now a b none =
     word-same (λ n. pending n h.events now) (λ n. pending n h.events h.now) 11
-      (λ n k. pending-later n h.events h.now now a b ∙ ap (λ x. pending n h.events h.now || x) (turned-never h.events h.now now none n) ∙ or_false (pending n h.events h.now))
+    (λ n k. pending-later n h.events h.now now a b ∙ ap (λ x. pending n h.events h.now || x) (turned-never h.events h.now now none n) ∙ or_false (pending n h.events h.now))
 
 -- ---- an event more
 
@@ -73,7 +73,7 @@ unfolding i_stat
 stat-same h event now stays =
     let P : ℕ → Type 0 = λ m. word_of (λ n. pending n (event ∷ h.events) m) 11 ≡ word_of (λ n. pending n h.events m) 11 in
     subst P now (word-same (λ n. pending n (event ∷ h.events) (moment event)) (λ n. pending n h.events (moment event)) 11
-      (λ n k. pending-event n event h.events ∙ stays n (pending n h.events (moment event))))
+    (λ n k. pending-event n event h.events ∙ stays n (pending n h.events (moment event))))
 
 pub stat-raised : (h : History) (line : ℕ) → line ≤ 10 → i_stat (then_event h (Raise h.now line)) ≡ bit_or (i_stat h) (2 ^ line)
 unfolding i_stat

@@ -18,7 +18,7 @@ top-cases v l = elim (cases_lt l v) [
 ]
 
 pub top-above : (v l : ℕ) → v ≤ 0xFFFF → v ≤ top_of v l
-top-above v l small = elim (top-cases v l) [ | inl a ↦ omega arith | inr a ↦ omega arith ]
+top-above v l small = elim (top-cases v l) [ inl a ↦ omega arith | inr a ↦ omega arith ]
 
 -- the value by its lap
 pub lap-first : (v l k : ℕ) → v + k ≤ top_of v l → lap v l k ≡ v + k
@@ -59,17 +59,17 @@ after-turns s k small low = closed (resets s) s.value s.target k small low
 pub lap-small : (v l k : ℕ) → v ≤ 0xFFFF → l ≤ 0xFFFF → lap v l k ≤ 0xFFFF
 lap-small v l k small low = elim (cases_lt (top_of v l) (v + k)) [
   | inl past ↦ subst (λ x. x ≤ 0xFFFF) (sym (lap-later v l k past)) (omega arith)
-  | inr within ↦ subst (λ x. x ≤ 0xFFFF) (sym (lap-first v l k within)) (elim (top-cases v l) [ | inl a ↦ omega arith | inr a ↦ omega arith ])
+  | inr within ↦ subst (λ x. x ≤ 0xFFFF) (sym (lap-first v l k within)) (elim (top-cases v l) [ inl a ↦ omega arith | inr a ↦ omega arith ])
 ]
 
 top-on : (v l j : ℕ) → v + j ≤ top_of v l → top_of (v + j) l ≡ top_of v l
 top-on v l j within = elim (top-cases v l) [
-  | inl (below, top) ↦ elim (top-cases (v + j) l) [ | inl b ↦ omega arith | inr b ↦ absurd (omega arith) ]
-  | inr (above, top) ↦ elim (top-cases (v + j) l) [ | inl b ↦ absurd (omega arith) | inr b ↦ omega arith ]
+  | inl (below, top) ↦ elim (top-cases (v + j) l) [ inl b ↦ omega arith | inr b ↦ absurd (omega arith) ]
+  | inr (above, top) ↦ elim (top-cases (v + j) l) [ inl b ↦ absurd (omega arith) | inr b ↦ omega arith ]
 ]
 
 top-low : (v l : ℕ) → v ≤ l → top_of v l ≡ l
-top-low v l h = elim (top-cases v l) [ | inl b ↦ b.1 | inr b ↦ absurd (omega arith) ]
+top-low v l h = elim (top-cases v l) [ inl b ↦ b.1 | inr b ↦ absurd (omega arith) ]
 
 pub lap-add : (v l j k : ℕ) → lap (lap v l j) l k ≡ lap v l (j + k)
 lap-add v l j k = elim (cases_lt (top_of v l) (v + j)) [
@@ -84,7 +84,7 @@ lap-add v l j k = elim (cases_lt (top_of v l) (v + j)) [
       let low : rest % (l + 1) ≤ l = omega arith in
       let top = top-low (rest % (l + 1)) l low in
       let whole : lap v l (j + k) ≡ (rest % (l + 1) + k) % (l + 1) =
-        lap-later v l (j + k) (omega arith) ∙ ap (λ a. a % (l + 1)) (let e : v + (j + k) - (top_of v l + 1) ≡ rest + k = omega arith in e) ∙ sym (mod-add-mod rest (l + 1) k) in
+      lap-later v l (j + k) (omega arith) ∙ ap (λ a. a % (l + 1)) (let e : v + (j + k) - (top_of v l + 1) ≡ rest + k = omega arith in e) ∙ sym (mod-add-mod rest (l + 1) k) in
       ap (λ w. lap w l k) (lap-later v l j past) ∙ elim (cases_lt l (rest % (l + 1) + k)) [
         | inl beyond ↦ lap-later (rest % (l + 1)) l k (omega arith) ∙ ap (λ a. (rest % (l + 1) + k - (a + 1)) % (l + 1)) top ∙ sym (mod-eq-sub-mod (omega arith)) ∙ sym whole
         | inr on ↦ lap-first (rest % (l + 1)) l k (omega arith) ∙ sym (mod-eq_of_lt (omega arith)) ∙ sym whole
@@ -97,7 +97,7 @@ lap-add v l j k = elim (cases_lt (top_of v l) (v + j)) [
 pub is-first-on : (v l x : ℕ) → v ≤ 0xFFFF → l ≤ 0xFFFF → v < x → x ≤ top_of v l → IsFirst v l x (x - v)
 is-first-on v l x small low above within = record {
   positive = omega arith;
-  small = elim (top-cases v l) [ | inl a ↦ omega arith | inr a ↦ omega arith ];
+  small = elim (top-cases v l) [ inl a ↦ omega arith | inr a ↦ omega arith ];
   there = lap-first v l (x - v) (omega arith) ∙ (let e : v + (x - v) ≡ x = omega arith in e);
   not_before = λ k p q is. let e : v + k ≡ x = sym (lap-first v l k (omega arith)) ∙ is in absurd (omega arith);
 }
@@ -105,8 +105,8 @@ is-first-on v l x small low above within = record {
 -- in the second lap
 pub is-first-later : (v l x : ℕ) → v ≤ 0xFFFF → l ≤ 0xFFFF → (v < x → top_of v l < x) → x ≤ l → IsFirst v l x (top_of v l - v + 1 + x)
 is-first-later v l x small low not_on within =
-    let reach : (v ≤ top_of v l) × (top_of v l ≤ 0xFFFF) × (l ≤ top_of v l) = elim (top-cases v l) [ | inl a ↦ (omega arith, omega arith, omega arith) | inr a ↦ (omega arith, omega arith, omega arith) ] in
-    let below : x ≤ v = elim (cases_lt v x) [ | inl a ↦ let b = not_on a in absurd (omega arith) | inr a ↦ a ] in
+    let reach : (v ≤ top_of v l) × (top_of v l ≤ 0xFFFF) × (l ≤ top_of v l) = elim (top-cases v l) [ inl a ↦ (omega arith, omega arith, omega arith) | inr a ↦ (omega arith, omega arith, omega arith) ] in
+    let below : x ≤ v = elim (cases_lt v x) [ inl a ↦ let b = not_on a in absurd (omega arith) | inr a ↦ a ] in
     record {
       positive = omega arith;
       small = omega arith;
@@ -177,7 +177,7 @@ unless true b h = h refl
 unless false b h = refl
 
 eq-false : (a b : ℕ) → a ≢ b → nat_eq a b ≡ false
-eq-false a b h = elim (eqb_tells a b) [ | inl e ↦ absurd (h e.1) | inr e ↦ e.0 ]
+eq-false a b h = elim (eqb_tells a b) [ inl e ↦ absurd (h e.1) | inr e ↦ e.0 ]
 
 -- a count with a turn is later than another exactly by turns
 turn-later : (c since m : ℕ) → 0 < c → since < m → m % c ≡ 0 → since / c < m / c
@@ -215,8 +215,8 @@ unfolding meets value_at
 meets-not t s x m small low later not =
     let c = clock t s.mode in
     unless (nat_eq (m % c) 0) (nat_eq (after_turns s (m / c - s.since / c)) x) (λ turn.
-      let above = turn-later c s.since m (clock-positive t s.mode) later (eqb-true (m % c) 0 turn) in
-      eq-false (after_turns s (m / c - s.since / c)) x (λ is. not (m / c - s.since / c) (omega arith) refl (sym (after-turns s (m / c - s.since / c) small low) ∙ is)))
+    let above = turn-later c s.since m (clock-positive t s.mode) later (eqb-true (m % c) 0 turn) in
+    eq-false (after_turns s (m / c - s.since / c)) x (λ is. not (m / c - s.since / c) (omega arith) refl (sym (after-turns s (m / c - s.since / c) small low) ∙ is)))
 
 pub meets-first : (t : ℕ) (s : Setting) (x d : ℕ) → s.value ≤ 0xFFFF → s.target ≤ 0xFFFF → IsFirst s.value (limit_of s) x d
     → IsFirstMeeting t s x ((s.since / clock t s.mode + d) * clock t s.mode)
@@ -228,9 +228,9 @@ meets-first t s x d small low first =
     let turns : q * c / c ≡ q = mul-div_left q positive in
     record {
       later =
-        turn-after c s.since d positive first.positive;
+          turn-after c s.since d positive first.positive;
       there = ap₂ ◌&&◌ (eq-eqb (q * c % c) 0 (mul-mod_left q c)) (eq-eqb (after_turns s (q * c / c - s.since / c)) x
-        (ap (λ n. after_turns s (n - s.since / c)) turns ∙ ap (after_turns s) (let e : q - s.since / c ≡ d = omega arith in e) ∙ after-turns s d small low ∙ first.there));
+          (ap (λ n. after_turns s (n - s.since / c)) turns ∙ ap (after_turns s) (let e : q - s.since / c ≡ d = omega arith in e) ∙ after-turns s d small low ∙ first.there));
       not_before = λ m after before. meets-not t s x m small low after (λ k p is. let below = turn-earlier c q m positive before in first.not_before k p (omega arith));
     }
 
@@ -238,4 +238,4 @@ pub value-now : (t : ℕ) (s : Setting) → s.value ≤ 0xFFFF → s.target ≤ 
 unfolding value_at
 value-now t s small low =
     ap (after_turns s) (let e : s.since / clock t s.mode - s.since / clock t s.mode ≡ 0 = omega arith in e) ∙ after-turns s 0 small low
-    ∙ (lap-first s.value (limit_of s) 0 (elim (top-cases s.value (limit_of s)) [ | inl a ↦ omega arith | inr a ↦ omega arith ]) ∙ add-zero s.value)
+    ∙ (lap-first s.value (limit_of s) 0 (elim (top-cases s.value (limit_of s)) [ inl a ↦ omega arith | inr a ↦ omega arith ]) ∙ add-zero s.value)

@@ -8,7 +8,7 @@ use Rattle.psx_ports.specs.Counter.{happens, raises, bit}
 use Rattle.psx_ports.specs.KeptCounter.{KeptCounter, Follows, IsAhead}
 use Rattle.psx_ports.specs.Interrupts.{with_pending, with_mask}
 use Rattle.psx_ports.specs.History.{History, Event, Read, Write, Raise, Give, Given, moment, then_event, at_count, acts_of, last_written, value_port, mode_port, target_port, then_act, turned, left, word_of, i_stat, i_mask, line, due, is_counter_port}
-use Rattle.psx_ports.specs.Stands.{Kept, KeptCounters, StandsFor, StandsCounter, StandCounters, least_next, LineStays, DeadlineIsLater}
+use Rattle.psx_ports.specs.Stands.{Kept, KeptCounters, StandsFor, StandsCounter, StandCounters, least_next}
 use Rattle.psx_ports.proofs.Following.{follows-later, nothing-raised}
 use Rattle.psx_ports.proofs.Pending.{stat-later, stat-stays, stat-same, stat-raised, stat-acknowledged}
 
@@ -59,17 +59,6 @@ stands-before k h n s a b = record {
   latest = omega (arith, s.latest);
   deadline = s.deadline;
 }
-
-pub line-stays : (k : Kept) (h : History) (n : ℕ) → StandsFor k h → h.now ≤ n → n < k.deadline → line (at_count h n) ≡ line h
-unfolding line
-line-stays k h n s a b = ap (λ stat. not (nat_eq (bit_and stat (i_mask h)) 0)) (stat-before k h n s a b)
-
-pub deadline-later : (k : Kept) (h : History) → StandsFor k h → k.now < 2 ^ 64 - 1 → k.now < k.deadline
-deadline-later k h s l =
-    let zero = s.counters.zero.later (omega (arith, s.now)) in
-    let one = s.counters.one.later (omega (arith, s.now)) in
-    let two = s.counters.two.later (omega (arith, s.now)) in
-    omega (arith, s.now, s.deadline)
 
 -- the turns up to a count that isn't before it
 pub stands-passed : (k : Kept) (h : History) (n lines deadline : ℕ) (counters : KeptCounters) → StandsFor k h → h.now ≤ n

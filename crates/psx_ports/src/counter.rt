@@ -7,6 +7,7 @@ ghost use Rattle.psx_ports.specs.KeptCounter.{Follows, IsAhead, raises_line};
 
 use crate::laps::{run, turns_to};
 use std::marker::Model;
+use std::mem;
 
 /// A counter, as its last access left it.
 #[derive(Drop)]
@@ -273,9 +274,9 @@ impl Counter {
         ensures later { count < 2 ^ 64 - 1 → count < self.new.next }
     {
         self.settle(count);
-        let word = self.mode + mask(self.reached_target, 0x800) + mask(self.reached_top, 0x1000);
-        self.reached_target = false;
-        self.reached_top = false;
+        let target = mem::replace(&mut self.reached_target, false);
+        let top = mem::replace(&mut self.reached_top, false);
+        let word = self.mode + mask(target, 0x800) + mask(top, 0x1000);
         self.look_ahead();
         word
     }

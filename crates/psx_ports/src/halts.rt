@@ -8,7 +8,7 @@ use psx_base::ports::{HALT_A, HALT_B, HALT_C};
 use psx_base::{Stop, Table};
 
 /// The words last written to the halt ports a, b and c, 0 at first.
-#[derive(Clone, Copy, Drop)]
+#[derive(Clone, Copy)]
 pub struct Halts {
     pub a: u32,
     pub b: u32,

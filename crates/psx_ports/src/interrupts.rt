@@ -2,7 +2,7 @@
 ghost use Rattle.std.specs.Prelude.{◌≡◌, ◌%◌, ◌^◌, ◌<◌, ◌≤◌, true, false, bit_and, bit_or};
 
 /// The pending lines and the mask, 11 bits each, and whether a pending line isn't masked.
-#[derive(Clone, Copy, Drop)]
+#[derive(Clone, Copy)]
 pub struct Interrupts {
     pub pending: u32,
     pub mask: u32,

@@ -118,19 +118,6 @@ fn lines_stay_until_they_are_acknowledged(rt: HostRuntime) {
     assert!(rt; !ports.line());
 }
 
-#[test]
-fn many_turns_take_no_time(rt: HostRuntime) {
-    let mut ports = ports(rt.alloc()).expect(&rt, "room");
-    write(&mut ports, COUNTERS + 0x08, 1000);
-    write(&mut ports, COUNTERS + 0x04, 0x48);
-    write(&mut ports, COUNTERS + 0x24, 0x200);
-    ports.tick(1_000_000_000_000_000);
-    assert_eq!(rt; read(&mut ports, COUNTERS), 1000);
-    assert_eq!(rt; read(&mut ports, COUNTERS + 0x20), 0xD000);
-    assert_eq!(rt; read(&mut ports, COUNTERS + 0x04), 0x848);
-    assert_eq!(rt; read(&mut ports, COUNTERS + 0x04), 0x48);
-}
-
 // A counter whose turns are made one by one.
 #[derive(Drop)]
 struct Plain {
@@ -165,14 +152,18 @@ impl Plain {
 }
 
 // A counter, the steps between its turns, its mode, target and value.
-const PROGRAMS: [(u32, u64, u32, u32, u32); 8] = [
+const PROGRAMS: [(u32, u64, u32, u32, u32); 12] = [
     (0, 1, 0x058, 5, 2),
-    (0, 8, 0x118, 5, 9),
-    (0, 1, 0x070, 3, 0xFFFA),
-    (1, 2048, 0x138, 4, 0xFFFC),
+    (0, 8, 0x118, 5, 0xFFFC),
+    (0, 1, 0x270, 3, 0xFFFA),
+    (0, 8, 0x378, 3, 1),
     (1, 1, 0x020, 7, 0xFFFB),
-    (2, 8, 0x250, 0xFFFF, 0xFFF0),
+    (1, 2048, 0x138, 4, 0xFFFC),
+    (1, 1, 0x2DF, 6, 6),
+    (1, 2048, 0x358, 2, 0),
+    (2, 1, 0x010, 4, 0),
     (2, 1, 0x178, 0, 0xFFFD),
+    (2, 8, 0x250, 0xFFFF, 0xFFF0),
     (2, 8, 0x318, 1, 0),
 ];
 
@@ -244,4 +235,18 @@ fn counters_turn_as_one_by_one(rt: HostRuntime) {
         let ports = ports(rt.alloc()).expect(&rt, "room");
         assert!(rt; agrees(ports, *program));
     }
+}
+
+#[test]
+fn many_turns_take_no_time(rt: HostRuntime) {
+    let ports = ports(rt.alloc()).expect(&rt, "room");
+    let mut board = Clocked { ports, now: 0 };
+    board.write(COUNTERS + 0x08, 1000);
+    board.write(COUNTERS + 0x04, 0x48);
+    board.write(COUNTERS + 0x24, 0x200);
+    board.tick(1_000_000_000_000_000);
+    assert_eq!(rt; board.read(COUNTERS), 1000);
+    assert_eq!(rt; board.read(COUNTERS + 0x20), 0xD000);
+    assert_eq!(rt; board.read(COUNTERS + 0x04), 0x848);
+    assert_eq!(rt; board.read(COUNTERS + 0x04), 0x48);
 }

@@ -14,7 +14,7 @@ returns-then-x-limit-clause-some c =
       | else-value-x-via-else-value-x w ↦ λ h. absurd (omega (arith, w.if-value-x.false))
     ] in
     subst (λ t. IsFirst c.args.value c.args.limit c.args.x (t - c.args.value + 1 + c.args.x)) (sym c.top-top.ensures)
-      (is-first-later c.args.value c.args.limit c.args.x (omega arith) (omega arith) past (omega arith))
+    (is-first-later c.args.value c.args.limit c.args.x (omega arith) (omega arith) past (omega arith))
 
 pub returns-else-x-limit-clause-none : goal.returns-else-x-limit-clause-none
 returns-else-x-limit-clause-none c =

@@ -1,4 +1,4 @@
-use Rattle.psx_ports.proofs.Standing.{line-stays, deadline-later}
+use Rattle.psx_ports.proofs.Deadlines.{line-stays, deadline-later}
 use Rattle.psx_ports.proofs.ports.line_stays.Goals as goal
 
 pub returns-clause-line : goal.returns-clause-line

@@ -13,5 +13,5 @@ returns-clause-stands c = λ h s.
     let now : h.now ≤ c.args.count = omega (arith, s.now, c.requires) in
     let n = c.args.count in
     subst (λ (i : Interrupts). StandsFor (record k { counters = c.turn_to-lines.new.self; interrupts = i; now = n; deadline = c.next-self-inside.result }) (at_count h n)) (sym c.raise.ensures)
-      (stands-passed k h n c.turn_to-lines.result c.next-self-inside.result c.turn_to-lines.new.self opened now
-        (c.turn_to-lines.ensures.raised h.events h.now opened.counters now) (c.turn_to-lines.ensures.stands h.events h.now opened.counters now) c.next-self-inside.ensures)
+    (stands-passed k h n c.turn_to-lines.result c.next-self-inside.result c.turn_to-lines.new.self opened now
+    (c.turn_to-lines.ensures.raised h.events h.now opened.counters now) (c.turn_to-lines.ensures.stands h.events h.now opened.counters now) c.next-self-inside.ensures)

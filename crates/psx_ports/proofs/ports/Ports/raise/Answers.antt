@@ -14,5 +14,5 @@ returns-clause-stands c = λ h s.
     let k = the_view c.self.inside in
     let opened = subst (λ (k : Kept). StandsFor k h) (sym c.self.view_is) s in
     let new : c.raise.new.self ≡ with_pending k.interrupts (bit_or k.interrupts.pending (2 ^ c.args.line)) =
-      c.raise.ensures ∙ ap (λ word. with_pending k.interrupts (bit_or k.interrupts.pending word)) (shifted c.args.line c.requires) in
+    c.raise.ensures ∙ ap (λ word. with_pending k.interrupts (bit_or k.interrupts.pending word)) (shifted c.args.line c.requires) in
     subst (λ (i : Interrupts). StandsFor (record k { interrupts = i }) (then_event h (Raise h.now c.args.line))) (sym new) (stands-raised k h c.args.line opened c.requires)

@@ -18,7 +18,7 @@ returns-then-at-eq-CONSOLE_DATA-clause-stands c = λ h s.
     let k = the_view c.self.inside in
     let opened = subst (λ (k : Kept). StandsFor k h) (sym c.self.view_is) s in
     subst (λ (at : ℕ). StandsFor (record k { console = c.take.new.self }) (then_event h (Read h.now at))) (sym c.if-at-eq-CONSOLE_DATA.true)
-      (subst (λ (bytes : List ℕ). StandsFor (record k { console = bytes }) (then_event h (Read h.now CONSOLE_DATA))) (sym c.take.ensures.rest) (stands-taken k h opened))
+    (subst (λ (bytes : List ℕ). StandsFor (record k { console = bytes }) (then_event h (Read h.now CONSOLE_DATA))) (sym c.take.ensures.rest) (stands-taken k h opened))
 
 pub returns-then-is_counter_port-clause-value : goal.returns-then-is_counter_port-clause-value
 returns-then-is_counter_port-clause-value c = λ h s.
@@ -32,9 +32,9 @@ returns-then-is_counter_port-clause-stands c = λ h s.
     let k = the_view c.self.inside in
     let opened = subst (λ (k : Kept). StandsFor k h) (sym c.self.view_is) s in
     stands-read k h c.args.at c.next-self-inside.result c.read-value.new.self opened (sym c.is_counter_port.ensures ∙ c.if-is_counter_port.true)
-      (subst (λ (n : ℕ). StandCounters c.read-value.new.self (Read n c.args.at ∷ h.events) n) opened.now
-        (c.read-value.ensures.stands h.events (subst (λ (n : ℕ). StandCounters k.counters h.events n) (sym opened.now) opened.counters)))
-      c.next-self-inside.ensures
+    (subst (λ (n : ℕ). StandCounters c.read-value.new.self (Read n c.args.at ∷ h.events) n) opened.now
+    (c.read-value.ensures.stands h.events (subst (λ (n : ℕ). StandCounters k.counters h.events n) (sym opened.now) opened.counters)))
+    c.next-self-inside.ensures
 
 pub returns-clause-stands : goal.returns-clause-stands
 returns-clause-stands c = λ h s.
