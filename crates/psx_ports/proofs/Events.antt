@@ -1,14 +1,13 @@
 -- Ports that stand for a history stand for it with an event more.
-use Rattle.std.proofs.Common.{◌≡◌, ◌≢◌, ℕ, zero, suc, ◌+◌, ◌-◌, ◌*◌, ◌%◌, ◌^◌, ◌≤◌, ◌<◌, Bool, true, false, ◌⊎◌, inl, inr, List, [], ◌∷◌, ◌++◌, drop, refl, sym, ap, ap₂, subst, ◌∙◌, arith}
-use Rattle.std.specs.Prelude.{not, ◌&&◌, ◌||◌, nat_eq, nat_le, bit_and, bit_or, if◌then◌else◌}
+use Rattle.std.proofs.Common.{◌≡◌, ℕ, ◌+◌, ◌%◌, ◌^◌, ◌≤◌, ◌<◌, true, false, ◌⊎◌, inl, inr, List, [], ◌∷◌, ◌++◌, drop, refl, sym, ap, ap₂, subst, ◌∙◌, arith}
+use Rattle.std.specs.Prelude.{◌&&◌, nat_eq, nat_le, bit_and, bit_or, if◌then◌else◌}
 use Rattle.std.proofs.lemmas.Bool.{le-leb}
 use Rattle.std.proofs.lemmas.Bool.Decides.{eqb_tells, leb_tells}
-use Rattle.psx_base.specs.declared.ports.TheConstants.{I_STAT, I_MASK, COUNTERS, CONSOLE_DATA, HALT, HALT_A, HALT_B, HALT_C}
-use Rattle.psx_ports.specs.declared.interrupts.Interrupts.{Interrupts}
+use Rattle.psx_base.specs.declared.ports.TheConstants.{I_STAT, I_MASK, COUNTERS, CONSOLE_DATA, HALT_A, HALT_B, HALT_C}
 use Rattle.psx_ports.specs.Counter.{Act, SetValue, SetMode, SetTarget, TakeMode, bit}
 use Rattle.psx_ports.specs.KeptCounter.{KeptCounter, Follows}
 use Rattle.psx_ports.specs.Interrupts.{with_pending, with_mask}
-use Rattle.psx_ports.specs.History.{History, Event, Read, Write, Raise, Give, moment, then_event, acts_of, last_written, then_act, mode_port, value_port, target_port, left, i_stat, i_mask, due, is_counter_port}
+use Rattle.psx_ports.specs.History.{History, Event, Read, Write, Raise, Give, then_event, acts_of, last_written, then_act, mode_port, value_port, target_port, i_stat, due, is_counter_port}
 use Rattle.psx_ports.specs.Stands.{Kept, KeptCounters, StandsFor, StandsCounter, StandCounters, least_next}
 use Rattle.psx_ports.proofs.Pending.{stat-same, stat-raised, stat-acknowledged}
 

@@ -1,8 +1,7 @@
 -- A counter that keeps no accesses follows them: when its turns are made, and at each access.
-use Rattle.std.proofs.Common.{◌≡◌, ℕ, zero, suc, ◌+◌, ◌-◌, ◌*◌, ◌/◌, ◌%◌, ◌^◌, ◌≤◌, ◌<◌, Bool, true, false, ◌⊎◌, inl, inr, List, [], ◌∷◌, refl, sym, ap, ap₂, subst, ◌∙◌, arith}
+use Rattle.std.proofs.Common.{◌≡◌, ℕ, ◌+◌, ◌-◌, ◌%◌, ◌^◌, ◌≤◌, ◌<◌, Bool, true, false, List, ◌∷◌, refl, sym, ap, ap₂, subst, ◌∙◌, arith}
 use Rattle.std.specs.Prelude.{not, ◌&&◌, ◌||◌, nat_eq, if◌then◌else◌}
-use Rattle.psx_ports.specs.Counter.{Setting, Act, SetValue, SetMode, SetTarget, TakeMode, time, bit, happens, clock, value_at, after_turns, setting, meets, meets_target, meets_top, asks, uses_mode, writes_mode, since_last, reached_target, reached_top, mode_word, asked, raises}
-use Rattle.psx_ports.specs.Laps.{limit_of}
+use Rattle.psx_ports.specs.Counter.{Setting, Act, SetValue, SetMode, SetTarget, TakeMode, time, bit, happens, clock, value_at, setting, meets, meets_target, meets_top, asks, uses_mode, writes_mode, since_last, reached_target, reached_top, mode_word, asked, raises}
 use Rattle.psx_ports.specs.KeptCounter.{KeptCounter, raises_line, Follows, IsAhead}
 use Rattle.psx_ports.proofs.Happens.{happens-empty, happens-split, happens-same, happens-never, happens-and, happens-or, happens-first}
 use Rattle.psx_ports.proofs.Reckoning.{value-since, value-now}

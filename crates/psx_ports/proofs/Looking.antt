@@ -1,11 +1,11 @@
 -- What a counter reckons from its setting: its value, and the first turn that brings it to a number, where the code has the clock as a power of 2.
-use Rattle.std.proofs.Common.{◌≡◌, ℕ, ◌+◌, ◌-◌, ◌*◌, ◌/◌, ◌%◌, ◌^◌, ◌≤◌, ◌<◌, Bool, true, false, ◌⊎◌, inl, inr, Option, Some, None, refl, sym, ap, ap₂, subst, ◌∙◌, arith}
+use Rattle.std.proofs.Common.{◌≡◌, ℕ, ◌+◌, ◌-◌, ◌*◌, ◌/◌, ◌%◌, ◌^◌, ◌≤◌, ◌<◌, Bool, true, false, inl, inr, Option, Some, None, refl, sym, ap, subst, ◌∙◌, arith}
 use Rattle.std.specs.Prelude.{not, ◌&&◌, ◌||◌, nat_eq, nat_le, IfSome, IfNone, SomeIff}
 use native.Mathlib.Nat.{mul-le-mul_left, mul-one}
 use Rattle.std.proofs.lemmas.Bool.{cases_lt}
 use Rattle.std.proofs.lemmas.Bool.Decides.{nat_tests}
-use Rattle.psx_ports.specs.Counter.{Setting, bit, clock, happens, value_at, after_turns, meets, meets_target, meets_top, asks}
-use Rattle.psx_ports.specs.Laps.{limit_of, top_of, lap, IsFirst, IsNever, IsFirstMeeting}
+use Rattle.psx_ports.specs.Counter.{Setting, bit, clock, happens, value_at, meets, meets_target, meets_top, asks}
+use Rattle.psx_ports.specs.Laps.{limit_of, lap, IsFirst, IsNever, IsFirstMeeting}
 use Rattle.psx_ports.specs.KeptCounter.{KeptCounter, raises_line}
 use Rattle.psx_ports.proofs.Happens.{happens-once, happens-never}
 use Rattle.psx_ports.proofs.Reckoning.{after-turns, meets-not, meets-first, clock-small}

@@ -1,12 +1,11 @@
 -- A counter's value reckoned in laps, from an earlier count or a later one, and the first turn that brings it to a number.
-use Rattle.std.proofs.Common.{◌≡◌, ◌≢◌, ℕ, zero, suc, ◌+◌, ◌-◌, ◌*◌, ◌/◌, ◌%◌, ◌^◌, ◌≤◌, ◌<◌, Bool, true, false, ◌⊎◌, inl, inr, refl, sym, ap, ap₂, subst, ◌∙◌, arith, add-zero, mod-eq_of_lt}
-use Rattle.std.specs.Prelude.{not, ◌&&◌, ◌||◌, nat_eq, nat_lt, nat_le, if◌then◌else◌}
+use Rattle.std.proofs.Common.{◌≡◌, ◌≢◌, ℕ, zero, suc, ◌+◌, ◌-◌, ◌*◌, ◌/◌, ◌%◌, ◌≤◌, ◌<◌, Bool, true, false, ◌⊎◌, inl, inr, refl, sym, ap, ap₂, subst, ◌∙◌, arith, add-zero, mod-eq_of_lt}
+use Rattle.std.specs.Prelude.{not, ◌&&◌, nat_eq, nat_lt, nat_le, if◌then◌else◌}
 use native.Mathlib.Nat.{mod-eq-sub-mod, mod-add-mod, div-mul-le_self, mul-mod_left, mul-div_left, mul-le-mul_right, div-add-mod', suc-mul}
 use Rattle.std.proofs.lemmas.Nat.{le-div}
 use Rattle.std.proofs.lemmas.Bool.{cases_lt, eqb-true, eq-eqb}
 use Rattle.std.proofs.lemmas.Bool.Decides.{nat_tests, eqb_tells}
-use Rattle.std.proofs.lemmas.Grind.{common_steps}
-use Rattle.psx_ports.specs.Counter.{Setting, bit, resets, after_turns, value_at, clock, is_turn, meets}
+use Rattle.psx_ports.specs.Counter.{Setting, bit, resets, after_turns, value_at, clock, meets}
 use Rattle.psx_ports.specs.Laps.{limit_of, top_of, lap, IsFirst, IsNever, IsFirstMeeting}
 
 -- ---- the top of the first lap

@@ -1,16 +1,13 @@
 -- Ports that stand for a history stand for it with an event more, and at a later count.
-use Rattle.std.proofs.Common.{◌≡◌, ◌≢◌, ℕ, zero, suc, ◌+◌, ◌-◌, ◌*◌, ◌%◌, ◌^◌, ◌≤◌, ◌<◌, Bool, true, false, ◌⊎◌, inl, inr, List, [], ◌∷◌, ◌++◌, drop, min, refl, sym, ap, ap₂, subst, ◌∙◌, arith}
-use Rattle.std.specs.Prelude.{not, ◌&&◌, ◌||◌, nat_eq, nat_le, bit_and, bit_or, if◌then◌else◌}
-use Rattle.std.proofs.lemmas.Bool.Decides.{eqb_tells, leb_tells}
-use Rattle.psx_base.specs.declared.ports.TheConstants.{I_STAT, I_MASK, COUNTERS, CONSOLE_DATA, HALT, HALT_A, HALT_B, HALT_C}
-use Rattle.psx_ports.specs.declared.interrupts.Interrupts.{Interrupts}
-use Rattle.psx_ports.specs.Counter.{happens, raises, bit}
-use Rattle.psx_ports.specs.KeptCounter.{KeptCounter, Follows, IsAhead}
-use Rattle.psx_ports.specs.Interrupts.{with_pending, with_mask}
-use Rattle.psx_ports.specs.History.{History, Event, Read, Write, Raise, Give, Given, moment, then_event, at_count, acts_of, last_written, value_port, mode_port, target_port, then_act, turned, left, word_of, i_stat, i_mask, line, due, is_counter_port}
+use Rattle.std.proofs.Common.{◌≡◌, ℕ, zero, suc, ◌≤◌, ◌<◌, false, List, refl, sym, ap₂, subst, ◌∙◌, arith}
+use Rattle.std.specs.Prelude.{not, nat_eq, bit_and, bit_or}
+use Rattle.psx_ports.specs.Counter.{happens, raises}
+use Rattle.psx_ports.specs.KeptCounter.{KeptCounter}
+use Rattle.psx_ports.specs.Interrupts.{with_pending}
+use Rattle.psx_ports.specs.History.{History, Event, at_count, acts_of, turned, word_of, i_stat, line}
 use Rattle.psx_ports.specs.Stands.{Kept, KeptCounters, StandsFor, StandsCounter, StandCounters, least_next}
 use Rattle.psx_ports.proofs.Following.{follows-later, nothing-raised}
-use Rattle.psx_ports.proofs.Pending.{stat-later, stat-stays, stat-same, stat-raised, stat-acknowledged}
+use Rattle.psx_ports.proofs.Pending.{stat-later, stat-stays}
 
 -- ---- a later count
 

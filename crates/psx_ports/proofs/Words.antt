@@ -1,6 +1,6 @@
 -- A word made of bits.
-use Rattle.std.proofs.Common.{◌≡◌, ◌≢◌, ℕ, zero, suc, ◌+◌, ◌-◌, ◌*◌, ◌/◌, ◌%◌, ◌^◌, ◌≤◌, ◌<◌, Bool, true, false, ◌⊎◌, inl, inr, refl, sym, ap, ap₂, subst, ◌∙◌, min, max, arith, pow-suc}
-use Rattle.std.specs.Prelude.{not, ◌&&◌, ◌||◌, nat_eq, bit_and, bit_or, if◌then◌else◌}
+use Rattle.std.proofs.Common.{◌≡◌, ℕ, zero, suc, ◌+◌, ◌-◌, ◌*◌, ◌/◌, ◌%◌, ◌^◌, ◌≤◌, ◌<◌, Bool, true, false, inl, inr, refl, sym, ap, ap₂, ◌∙◌, min, max, arith, pow-suc}
+use Rattle.std.specs.Prelude.{◌&&◌, ◌||◌, nat_eq, bit_and, bit_or, if◌then◌else◌}
 use Rattle.std.specs.Int.{bit_at}
 use native.Mathlib.Nat.{pow-le-pow_right}
 use Rattle.std.proofs.lemmas.Bool.{cases_lt}

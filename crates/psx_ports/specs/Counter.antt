@@ -1,5 +1,5 @@
 -- A root counter (PSX-SPX, Timers), by the accesses to it so far, newest first: its value in closed form, and what its turns did.
-use Rattle.std.specs.Prelude.{ℕ, zero, suc, ◌+◌, ◌-◌, ◌*◌, ◌/◌, ◌%◌, ◌^◌, Bool, true, false, not, ◌&&◌, ◌||◌, nat_eq, nat_lt, nat_le, List, [], ◌∷◌, if◌then◌else◌}
+use Rattle.std.specs.Prelude.{ℕ, zero, suc, ◌+◌, ◌-◌, ◌/◌, ◌%◌, ◌^◌, Bool, true, false, not, ◌&&◌, ◌||◌, nat_eq, nat_lt, nat_le, List, [], ◌∷◌, if◌then◌else◌}
 use Rattle.std.specs.Int.{bit_at}
 
 -- whether a bit of a word is set

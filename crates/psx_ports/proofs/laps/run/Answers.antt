@@ -1,4 +1,4 @@
-use Rattle.std.proofs.Common.{◌≡◌, ℕ, ◌+◌, ◌-◌, ◌%◌, ◌≤◌, sym, ap, ◌∙◌, arith}
+use Rattle.std.proofs.Common.{◌≡◌, ◌+◌, ◌-◌, ◌%◌, sym, ap, ◌∙◌, arith}
 use Rattle.psx_ports.specs.Laps.{top_of}
 use Rattle.psx_ports.proofs.Reckoning.{lap-first, lap-later, top-above}
 use Rattle.psx_ports.proofs.laps.run.Goals as goal

@@ -1,4 +1,4 @@
-use Rattle.std.proofs.Common.{◌≡◌, ℕ, ◌+◌, ◌-◌, ◌≤◌, ◌<◌, sym, subst, arith}
+use Rattle.std.proofs.Common.{◌+◌, ◌-◌, ◌<◌, sym, subst, arith}
 use Rattle.psx_ports.specs.Laps.{top_of, IsFirst}
 use Rattle.psx_ports.proofs.Reckoning.{is-first-on, is-first-later, is-never}
 use Rattle.psx_ports.proofs.laps.turns_to.Goals.{else-value-x-via-then-value-x+else-x-top, else-value-x-via-else-value-x}

@@ -1,4 +1,4 @@
-use Rattle.std.proofs.Common.{◌%◌, ◌^◌, ◌≤◌, List, ◌∷◌, false, sym, ap, subst, ◌∙◌, arith}
+use Rattle.std.proofs.Common.{◌%◌, ◌^◌, ◌∷◌, sym, ap, subst, ◌∙◌, arith}
 use Rattle.psx_ports.specs.Counter.{SetValue}
 use Rattle.psx_ports.specs.KeptCounter.{KeptCounter, Follows}
 use Rattle.psx_ports.proofs.Following.{follows-value}

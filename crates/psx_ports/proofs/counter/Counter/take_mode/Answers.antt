@@ -1,4 +1,4 @@
-use Rattle.std.proofs.Common.{◌+◌, ◌≤◌, ◌∷◌, Bool, false, sym, ap, ap₂, subst, ◌∙◌, arith}
+use Rattle.std.proofs.Common.{◌+◌, ◌∷◌, Bool, false, sym, ap₂, subst, ◌∙◌, arith}
 use Rattle.std.specs.Prelude.{if◌then◌else◌}
 use Rattle.psx_ports.specs.contracts.counter.Counter.{the_view}
 use Rattle.psx_ports.specs.Counter.{TakeMode}
@@ -19,5 +19,5 @@ returns-clause-follows c = λ acts f.
     let taken : P false false c.settle.new.self = follows-take c.settle.new.self acts c.args.count next (c.settle.ensures.follows acts c.args.count f (omega arith)) c.settle.ensures.since in
     let opened = subst (λ (k : KeptCounter). P false false k) (sym c.self.view_is) taken in
     let cleared = subst (λ (top : Bool). P c.replace-target.new.dest top (the_view c.self.inside)) (sym c.replace-top.ensures.after)
-      (subst (λ (target : Bool). P target false (the_view c.self.inside)) (sym c.replace-target.ensures.after) opened) in
+    (subst (λ (target : Bool). P target false (the_view c.self.inside)) (sym c.replace-target.ensures.after) opened) in
     subst (λ (k : KeptCounter). Follows k (TakeMode c.args.count ∷ acts) c.args.count) (sym c.look_ahead.ensures.same) cleared

@@ -1,4 +1,4 @@
-use Rattle.std.proofs.Common.{sym, ap, ◌∙◌}
+use Rattle.std.proofs.Common.{ap, ◌∙◌}
 use Rattle.psx_ports.specs.Stands.{Kept}
 use Rattle.psx_ports.proofs.Standing.{line-kept}
 use Rattle.psx_ports.proofs.ports.Ports.line.Goals as goal

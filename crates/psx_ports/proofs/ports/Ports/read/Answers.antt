@@ -1,4 +1,4 @@
-use Rattle.std.proofs.Common.{◌≡◌, ℕ, List, ◌∷◌, sym, ap, subst, ◌∙◌, refl, rules, arith}
+use Rattle.std.proofs.Common.{ℕ, List, ◌∷◌, sym, ap, subst, ◌∙◌, arith}
 use Rattle.std.proofs.lemmas.Bool.Decides.{nat_tests}
 use Rattle.psx_base.specs.declared.ports.TheConstants.{CONSOLE_DATA}
 use Rattle.psx_ports.specs.contracts.ports.Ports.{the_view}

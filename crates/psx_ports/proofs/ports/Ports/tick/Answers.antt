@@ -1,4 +1,4 @@
-use Rattle.std.proofs.Common.{◌≤◌, sym, subst, arith}
+use Rattle.std.proofs.Common.{sym, subst, arith}
 use Rattle.psx_ports.specs.contracts.ports.Ports.{the_view}
 use Rattle.psx_ports.specs.Stands.{Kept, StandsFor}
 use Rattle.psx_ports.proofs.Standing.{stands-before}
