@@ -1,12 +1,11 @@
 -- What was delivered isn't delivered again.
-use Rattle.std.proofs.Common.{◌≡◌, ℕ, ◌≤◌, Bool, true, false, List, [], ◌∷◌, refl, sym, ap, ◌∙◌, arith}
+use Rattle.std.proofs.Common.{◌≡◌, ℕ, Bool, true, false, List, [], ◌∷◌, refl, ap, ◌∙◌}
 use Rattle.std.specs.Prelude.{nat_le, if◌then◌else◌}
 use Rattle.psx_sched.specs.declared.schedule.What.{What}
 use Rattle.psx_sched.specs.declared.schedule.What.TheVariants.{Byte, Line}
 use Rattle.psx_sched.specs.declared.schedule.Entry.{Entry}
 use Rattle.psx_ports.specs.History.{History}
-use Rattle.psx_board.specs.Machine.{Machine}
-use Rattle.psx_board.specs.Delivery.{due, later, arrived, all_arrived, delivered}
+use Rattle.psx_board.specs.Delivery.{due, later, arrived, all_arrived}
 
 arrived-now : (h : History) (what : What) → (arrived h what).now ≡ h.now
 arrived-now h (Byte byte) = refl

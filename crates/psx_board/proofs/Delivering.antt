@@ -1,13 +1,11 @@
 -- Entries that are delivered one after the other.
-use Rattle.std.proofs.Common.{◌≡◌, ℕ, zero, suc, ◌+◌, ◌-◌, ◌<◌, ◌≤◌, Bool, true, false, List, [], ◌∷◌, length, take, drop, refl, sym, ap, ◌∙◌, arith}
+use Rattle.std.proofs.Common.{◌≡◌, ℕ, ◌+◌, ◌-◌, ◌<◌, ◌≤◌, Bool, true, false, List, [], ◌∷◌, length, take, drop, refl, sym, ap, ◌∙◌, arith}
 use Rattle.std.specs.Prelude.{nat_le, if◌then◌else◌, All}
 use Rattle.std.proofs.lemmas.List.{take_all, length-drop}
 use Rattle.std.proofs.lemmas.List.Elements.{All-nil, All-cons}
-use Rattle.psx_sched.specs.declared.schedule.What.{What}
-use Rattle.psx_sched.specs.declared.schedule.What.TheVariants.{Byte, Line}
 use Rattle.psx_sched.specs.declared.schedule.Entry.{Entry}
 use Rattle.psx_sched.specs.Schedule.{IsOrdered, IsPlausible}
-use Rattle.psx_ports.specs.History.{History, Raise, Give, then_event}
+use Rattle.psx_ports.specs.History.{History}
 use Rattle.psx_ports.specs.Stands.{StandsFor}
 use Rattle.psx_ports.specs.Stands as Ports
 use Rattle.psx_board.specs.Delivery.{due, later, arrived, all_arrived}

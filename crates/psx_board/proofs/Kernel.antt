@@ -1,6 +1,6 @@
 -- The guard stops nothing on the kernel's side.
-use Rattle.std.proofs.Common.{◌≡◌, ℕ, Bool, true, false, Option, Some, None, refl, sym, subst, ◌+◌, arith}
-use Rattle.std.specs.Prelude.{if◌then◌else◌, ◌&&◌, ◌||◌, not, nat_eq, ◌%◌, is_some}
+use Rattle.std.proofs.Common.{◌≡◌, ℕ, Bool, true, false, Option, Some, None, sym, subst, ◌+◌, arith}
+use Rattle.std.specs.Prelude.{if◌then◌else◌, ◌&&◌, nat_eq, ◌%◌}
 use Rattle.psx_ins.specs.declared.ins.Ins.{Ins}
 use Rattle.psx_ins.specs.declared.ins.Ins.TheVariants.{LW, SW, RFE}
 use Rattle.psx_ins.specs.Decoding.{instruction_of}
@@ -10,9 +10,9 @@ use Rattle.psx_base.specs.PortAddresses.{port}
 use Rattle.psx_base.specs.Context.{Context}
 use Rattle.psx_cpu.specs.Processor.{Core, Bus, Trap}
 use Rattle.psx_cpu.specs.DataAccess.{data_address, read_word}
-use Rattle.psx_cpu.specs.Traps.{DataUse, data_use, is_aligned, own_trap, misaligned, reserved_code}
+use Rattle.psx_cpu.specs.Traps.{DataUse, data_use, is_aligned, own_trap}
 use Rattle.psx_cpu.specs.Exceptions.{takes_interrupt}
-use Rattle.psx_cpu.specs.Guard.{guard_data, guard_instruction, guard_word, guard, is_branch, is_protected}
+use Rattle.psx_cpu.specs.Guard.{guard_data, guard_word, guard, is_branch, is_protected}
 use Rattle.psx_cpu.specs.declared.step.Did.{Did}
 use Rattle.psx_cpu.specs.declared.step.Did.TheVariants.{Plain, PortRead, PortWrite, Entered, Left, Stopped}
 use Rattle.psx_cpu.specs.Step.{Move, Goes, Reads, Writes, Enters, Leaves, Stops, entered, executed, performed, passed, step, Does}

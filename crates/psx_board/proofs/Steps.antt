@@ -4,7 +4,6 @@ use Rattle.psx_base.specs.declared.stop.Stop.{Stop}
 use Rattle.psx_base.specs.declared.stop.Stop.TheVariants.{Budget}
 use Rattle.psx_base.specs.Items.{Item, S}
 use Rattle.psx_cpu.specs.declared.step.Did.{Did}
-use Rattle.psx_cpu.specs.declared.step.Did.TheVariants.{Stopped}
 use Rattle.psx_board.specs.Machine.{Machine}
 use Rattle.psx_board.specs.Turn.{Turn, On, Ends, turn}
 use Rattle.psx_board.specs.Delivery.{line}

@@ -11,13 +11,13 @@ use Rattle.psx_cpu.specs.Processor.{Core, Bus}
 use Rattle.psx_cpu.specs.Step.{Move, Goes, Reads, Writes, Enters, Leaves, Stops, Does, port_read, step}
 use Rattle.psx_ports.specs.declared.PortDid.{PortDid}
 use Rattle.psx_ports.specs.declared.PortDid.TheVariants.{Quiet, Tty, Halt}
-use Rattle.psx_ports.specs.History.{History, Read, Write, line, then_event, at_count, halted, written, last_written}
+use Rattle.psx_ports.specs.History.{History, Read, Write, line, at_count, halted, written, last_written}
 use Rattle.psx_ports.specs.HaltCodes.{halt_stop}
 use Rattle.psx_board.specs.Machine.{Machine}
-use Rattle.psx_board.specs.Delivery.{due, later, all_arrived, delivered}
-use Rattle.psx_board.specs.Turn.{Turn, On, Ends, after_write, accessed, moved, by_move, shown, asked, answered, bus_of, stepped, turn}
+use Rattle.psx_board.specs.Delivery.{due, delivered}
+use Rattle.psx_board.specs.Turn.{Turn, after_write, accessed, moved, by_move, shown, asked, answered, bus_of, stepped, turn}
 use Rattle.psx_board.specs.Entries.{entry, return}
-use Rattle.psx_board.specs.Devices.{Kept, Carries}
+use Rattle.psx_board.specs.Devices.{Carries}
 use Rattle.psx_board.specs.Finished.{Counted, Wrote, Finished, after_read, stop_of}
 use Rattle.psx_board.specs.Stands.{View, Stands, Turned, TurnedBy, console_bytes}
 use Rattle.psx_board.proofs.Again.{all_arrived-now, arrived-again, later-again}
@@ -113,7 +113,7 @@ again m new taken core c =
     record {
       core = core;
       devices = subst (λ (h : History). Carries new.devices h (delivered d).waiting) (sym (arrived-again m.history.now d.history m.waiting now))
-      (subst (λ (es : List Entry). Carries new.devices d.history es) (sym (later-again m.history.now d.history.now m.waiting now)) c);
+          (subst (λ (es : List Entry). Carries new.devices d.history es) (sym (later-again m.history.now d.history.now m.waiting now)) c);
       taken = taken ∙ c.counted;
     }
 

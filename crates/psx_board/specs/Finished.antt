@@ -3,7 +3,7 @@ use Rattle.std.specs.Prelude.{◌≡◌, ℕ, ◌+◌, List, Option, Some, None}
 use Rattle.psx_base.specs.declared.stop.Stop.{Stop}
 use Rattle.psx_sched.specs.declared.schedule.Entry.{Entry}
 use Rattle.psx_cpu.specs.declared.step.Did.{Did}
-use Rattle.psx_cpu.specs.declared.step.Did.TheVariants.{Plain, PortRead, PortWrite, Entered, Left, Stopped}
+use Rattle.psx_cpu.specs.declared.step.Did.TheVariants.{PortWrite, Stopped}
 use Rattle.psx_ports.specs.declared.PortDid.{PortDid}
 use Rattle.psx_ports.specs.declared.PortDid.TheVariants.{Quiet, Tty, Halt}
 use Rattle.psx_ports.specs.History.{History, Read, Write, then_event, at_count, written}

@@ -21,7 +21,6 @@ ghost use Rattle.psx_board.specs.Stands.{Stands, Turned, WentOn};
 ghost use Rattle.psx_board.specs.SoFar.{StandsAfter};
 
 use crate::devices::Devices;
-
 use psx_base::{Addr, Memory, Sizes, Stop};
 use psx_cpu::{BusAnswer, Cpu, Did};
 use psx_exe::Exe;

@@ -8,5 +8,4 @@ ghost use Rattle.psx_board.specs.SoFar.{so_far, closed_run};
 #[tactic(auto, using(crate::proofs::Steps::run_so_far))]
 pub fn run_is_its_steps()
     ensures { (n : ℕ) (m : Machine) → run n m ≡ closed_run (so_far n m) }
-{
-}
+{}

@@ -1,4 +1,4 @@
-use Rattle.std.proofs.Common.{◌≡◌, ℕ, ◌+◌, ◌≤◌, length, drop}
+use Rattle.std.proofs.Common.{◌≡◌, ◌+◌, ◌≤◌, length, drop}
 use Rattle.psx_ports.specs.History.{History}
 use Rattle.psx_ports.specs.Stands.{StandsFor}
 use Rattle.psx_board.specs.Delivery.{later}

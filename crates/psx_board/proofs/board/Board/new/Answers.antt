@@ -10,7 +10,7 @@ returns-clause-stands c =
     let given = λ (sp : ℕ). StandsFor c.in_ok-ports.ports (record { given = record { pc = c.args.exe.now.pc; gp = c.args.exe.now.gp; sp = sp; threads = c.args.sizes.threads; events = c.args.sizes.events }; events = []; now = 0 }) in
     record {
       core = (λ i. record { processor = c.reset.ensures i; bytes = (c.place_program.ensures ∙ ap (λ (m : Memory). placed m c.args.exe.now) c.in_ok-ram.ensures) i });
-      devices = c.new-3.ensures.carries _ (subst given c.stack_top.ensures c.in_ok-ports.ensures.stands);
+      devices = c.new-3.ensures.carries _ (subst given c.stack_top.ensures c.in_ok-ports.ensures);
       taken = c.new-3.ensures.counted;
     }
 

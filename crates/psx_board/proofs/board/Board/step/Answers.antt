@@ -1,5 +1,4 @@
-use Rattle.std.proofs.Common.{◌≡◌, ℕ, ◌+◌, Some, None, true, sym, ap, refl, ◌∙◌, arith, subst}
-use Rattle.psx_cpu.specs.declared.step.Did.{Did}
+use Rattle.std.proofs.Common.{ℕ, ◌+◌, ap, refl, ◌∙◌}
 use Rattle.psx_cpu.specs.Views.{core_of}
 use Rattle.psx_board.specs.Delivery.{delivered}
 use Rattle.psx_board.specs.Turn.{asked, answered}
