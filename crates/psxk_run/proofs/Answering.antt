@@ -1,6 +1,5 @@
 -- What the top call's status says, from how a command ended.
-use Rattle.std.proofs.Common.{◌≡◌, ◌≢◌, ◌⊎◌, ℕ, ◌≤◌, List, Option, None, Some, Result, Ok, Err, refl, sym, ap, subst, ◌∙◌, inl, inr, arith}
-use Rattle.std.specs.Prelude.{take}
+use Rattle.std.proofs.Common.{◌≡◌, ◌≢◌, ◌⊎◌, ℕ, ◌≤◌, List, Option, None, Some, Result, Ok, Err, sym, ap, subst, ◌∙◌, inl, inr, arith}
 use Rattle.psx_base.specs.declared.host.Out.{Out}
 use Rattle.psx_base.specs.declared.host.Out.TheVariants.{Report}
 use Rattle.psx_base.specs.declared.stop.Sizes.{Sizes}
@@ -16,7 +15,6 @@ use Rattle.psxk_run.specs.declared.inputs.Inputs.{Inputs}
 use Rattle.psxk_run.specs.declared.refusal.Refusal.{Refusal}
 use Rattle.psxk_run.specs.declared.refusal.Refusal.TheVariants.{Program, Schedule, Config, Unread, Memory}
 use Rattle.psxk_run.specs.Command.{Command}
-use Rattle.psxk_run.specs.Config.{IsConfigOf}
 use Rattle.psxk_run.specs.Inputs.{IsLoaded, IsTold, GivesProgram, GivesEntries, GivesSchedule, GivesNumbers, GivesSizes, GivesAll, Gives, IsCause}
 use Rattle.psxk_run.specs.Refusals.{line_of}
 use Rattle.psxk_run.specs.Refusals as refusals

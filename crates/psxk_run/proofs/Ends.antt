@@ -1,5 +1,5 @@
 -- How the top call ends.
-use Rattle.std.proofs.Common.{◌≡◌, ◌≢◌, ◌⊎◌, ℕ, ◌≤◌, List, [], Option, None, Some, refl, sym, ap, arith, ◌∙◌, Ok, Err, inl, inr, append-nil}
+use Rattle.std.proofs.Common.{◌≡◌, ◌≢◌, ℕ, ◌≤◌, List, [], Option, None, Some, refl, sym, ap, arith, ◌∙◌, inl, inr, append-nil}
 use Rattle.psx_base.specs.declared.host.Out.{Out}
 use Rattle.psx_base.specs.declared.host.Out.TheVariants.{Tty, Trace, Ram, Report}
 use Rattle.psx_base.specs.declared.stop.Stop.{Stop}

@@ -1,10 +1,10 @@
 -- Fronts of texts.
-use Rattle.std.proofs.Common.{◌≡◌, ◌≢◌, ◌⊎◌, ℕ, List, [], ◌++◌, take, drop, Option, None, Some, Ok, Err, refl, sym, ap, ◌∙◌, inl, inr, append-nil, append_assoc}
+use Rattle.std.proofs.Common.{◌≡◌, ◌≢◌, ◌⊎◌, ℕ, List, [], ◌++◌, take, drop, Option, None, Some, refl, sym, ap, ◌∙◌, inl, inr, append-nil, append_assoc}
 use Rattle.std.proofs.lemmas.List.{take-append-drop}
 use Rattle.psx_base.specs.declared.host.Out.{Out}
 use Rattle.psx_base.specs.declared.host.Out.TheVariants.{Tty, Trace, Ram, Report}
 use Rattle.psx_base.specs.declared.stop.Stop.{Stop}
-use Rattle.psx_base.specs.Host.{IsFront, SendsFront}
+use Rattle.psx_base.specs.Host.{SendsFront}
 use Rattle.psx_board.specs.Run.{Outcome}
 use Rattle.psxk_run.specs.Sent.{Grew, GrewFront, OnlyReports}
 use Rattle.psxk_run.specs.Texts.{trace_text, report_of, status_of, Delivers, BreaksOff}

@@ -1,5 +1,5 @@
 -- What the loads of a command gave, from the moment before the first.
-use Rattle.std.proofs.Common.{◌≡◌, ◌⊎◌, ℕ, ◌≤◌, List, Option, None, Some, Result, Ok, Err, refl, sym, ap, subst, inl, inr, arith}
+use Rattle.std.proofs.Common.{◌≡◌, ℕ, ◌≤◌, List, Option, None, Some, Result, Ok, Err, refl, sym, subst, inl, inr, arith}
 use Rattle.std.specs.Prelude.{min, ◌+◌, ◌-◌, ◌^◌}
 use Rattle.psx_base.specs.declared.stop.Sizes.{Sizes}
 use Rattle.psx_base.specs.Host.{Rose, IsFront}
@@ -10,7 +10,7 @@ use Rattle.psxk_run.specs.declared.configuration.ConfError.{ConfError}
 use Rattle.psxk_run.specs.declared.refusal.Refusal.{Refusal}
 use Rattle.psxk_run.specs.declared.refusal.Refusal.TheVariants.{Program, Schedule, Config, Unread, Memory}
 use Rattle.psxk_run.specs.Command.{Command}
-use Rattle.psxk_run.specs.Inputs.{IsLoaded, GivesProgram, GivesEntries, GivesSchedule, GivesNumbers, GivesSizes, IsCause, OfProgram, OfSchedule, OfSizes, IsUnreadOf, Names}
+use Rattle.psxk_run.specs.Inputs.{IsLoaded, GivesProgram, GivesEntries, GivesSchedule, GivesNumbers, GivesSizes, IsCause, OfProgram, OfSchedule, OfSizes, Names}
 use Rattle.psxk_run.proofs.GoingOn.{rose-since}
 
 -- what a later moment's host holds, an earlier one's does

@@ -1,5 +1,5 @@
 -- How a command ends, in one relation: by a run, or refused.
-use Rattle.std.specs.Prelude.{◌≡◌, ◌⊎◌, ℕ, List, Option}
+use Rattle.std.specs.Prelude.{◌⊎◌, ℕ, List, Option}
 use Rattle.psx_base.specs.declared.host.Out.{Out}
 use Rattle.psx_base.specs.declared.host.Out.TheVariants.{Report}
 use Rattle.psxk_run.specs.declared.inputs.Inputs.{Inputs}

@@ -61,7 +61,12 @@ fn schedule_name<'a>(word: &'a str) -> Option<&'a str>
 }
 
 // A run by its words.
-fn run_of<'a>(name: &'a str, schedule: &'a str, number: &str, config: Option<&'a str>) -> Option<Run<'a>>
+fn run_of<'a>(
+    name: &'a str,
+    schedule: &'a str,
+    number: &str,
+    config: Option<&'a str>,
+) -> Option<Run<'a>>
     ensures asked { option_map told result ≡ asked name.now schedule.now (word_of config.entry) (budget_of number.now) }
     ensures budget { IfSome result (λ r. 0 < r.budget) }
 {

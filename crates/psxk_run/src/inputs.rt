@@ -30,7 +30,12 @@ pub struct Inputs {
 }
 
 // Loads a file.
-fn load<'a, H: Host>(alloc: Global, host: &mut H, name: &'a str, limit: usize) -> Result<Vec<u8>, Refusal<'a>>
+fn load<'a, H: Host>(
+    alloc: Global,
+    host: &mut H,
+    name: &'a str,
+    limit: usize,
+) -> Result<Vec<u8>, Refusal<'a>>
     ensures bytes { IfOk result (λ v. IsFront (limit + 1) (H.holds host.old name.now) v.items) }
     ensures unread { IfErr result (IsUnreadOf (H.load_faults host.old) (H.load_faults host.new) name.now) }
     ensures sent { (o : Out) → H.sent host.new o ≡ H.sent host.old o }
@@ -91,7 +96,11 @@ fn schedule_refusal<'a>(error: SchedError) -> Refusal<'a>
 }
 
 // Loads a schedule, where one is named.
-fn load_schedule<'a, H: Host>(alloc: Global, host: &mut H, name: Option<&'a str>) -> Result<Schedule, Refusal<'a>>
+fn load_schedule<'a, H: Host>(
+    alloc: Global,
+    host: &mut H,
+    name: Option<&'a str>,
+) -> Result<Schedule, Refusal<'a>>
     ensures schedule { IfOk result (λ entries. GivesSchedule (IsLoaded (H.holds host.old)) (word_of name.entry) (Ok entries)) }
     ensures cause { IfErr result (OfSchedule (H.holds host.old) (H.load_faults host.old) (H.load_faults host.new) (word_of name.entry)) }
     ensures sent { (o : Out) → H.sent host.new o ≡ H.sent host.old o }
@@ -111,7 +120,11 @@ fn load_schedule<'a, H: Host>(alloc: Global, host: &mut H, name: Option<&'a str>
 }
 
 // Loads the sizes of a configuration, where one is named.
-fn load_sizes<'a, H: Host>(alloc: Global, host: &mut H, name: Option<&'a str>) -> Result<Sizes, Refusal<'a>>
+fn load_sizes<'a, H: Host>(
+    alloc: Global,
+    host: &mut H,
+    name: Option<&'a str>,
+) -> Result<Sizes, Refusal<'a>>
     ensures sizes { IfOk result (λ sizes. GivesSizes (IsLoaded (H.holds host.old)) (word_of name.entry) (Ok sizes)) }
     ensures threads { IfOk result (λ sizes. (4 ≤ sizes.threads) × (sizes.threads ≤ 16)) }
     ensures events { IfOk result (λ sizes. (16 ≤ sizes.events) × (sizes.events ≤ 64)) }
@@ -136,7 +149,11 @@ fn load_sizes<'a, H: Host>(alloc: Global, host: &mut H, name: Option<&'a str>) -
 }
 
 /// Loads the files of a command, in the order of program, schedule and configuration.
-pub(crate) fn prepare<'a, H: Host>(alloc: Global, host: &mut H, run: Run<'a>) -> Result<Inputs, Refusal<'a>>
+pub(crate) fn prepare<'a, H: Host>(
+    alloc: Global,
+    host: &mut H,
+    run: Run<'a>,
+) -> Result<Inputs, Refusal<'a>>
     ensures given { IfOk result (GivesAll (IsLoaded (H.holds host.old)) (told run.entry)) }
     ensures runnable { IfOk result IsRunnable }
     ensures cause { IfErr result (IsCause (H.holds host.old) (H.load_faults host.old) (H.load_faults host.new) (told run.entry)) }

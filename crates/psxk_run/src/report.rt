@@ -5,10 +5,10 @@ ghost use Rattle.psx_trace.specs.Digits.{field};
 ghost use Rattle.psx_trace.specs.StopText.{stop_text};
 ghost use Rattle.psxk_run.specs.Reports.{exe_error_text, exe_line, schedule_error_text, schedule_line, config_error_text, config_line, stop_line};
 
+use crate::configuration::ConfError;
 use arrayvec::ArrayVec;
 use itoa::Buffer;
 use psx_base::Stop;
-use crate::configuration::ConfError;
 use psx_exe::ExeError;
 use psx_sched::SchedError;
 use psx_trace::stop_text;

@@ -1,7 +1,8 @@
-//! The words of the command line, and the call that they make.
+//! The words of the command line and the call that they make; the configuration text.
 use crate::command::{budget, command};
-use crate::psxk;
-use psx_base::NoFailHost;
+use crate::configuration::config;
+use crate::{ConfError, psxk};
+use psx_base::{NoFailHost, Sizes};
 
 #[test]
 fn reads_the_words(rt: HostRuntime) {
@@ -11,11 +12,39 @@ fn reads_the_words(rt: HostRuntime) {
     let run = command(&["run", "a", "-", "20"]);
     assert_eq!(rt; run.map(|run| (run.schedule, run.budget)), Some((None, 20)));
     let run = command(&["run", "a", "b", "20", "c"]);
-    assert_eq!(rt; run.map(|run| (run.schedule, run.config)), Some((Some("b"), Some("c"))));
+    assert_eq!(rt;
+        run.map(|run| (run.schedule, run.config)),
+        Some((Some("b"), Some("c")))
+    );
 }
 
 #[test]
 fn answers_other_words(rt: HostRuntime) {
     let mut host = NoFailHost::new(rt.alloc());
     assert_eq!(rt; psxk(rt.alloc(), &["run"], &mut host), 2);
+}
+
+#[test]
+fn sizes_of_a_configuration(rt: HostRuntime) {
+    let text = b"BOOT = cdrom:\\MAIN.EXE;1\r\nTCB = 6\r\nEVENT = 20\r\nSTACK = 801FFFF0\r\n";
+    let sizes = Sizes {
+        threads: 6,
+        events: 32,
+    };
+    assert_eq!(rt; config(text), Ok(sizes));
+    let least = Sizes {
+        threads: 4,
+        events: 16,
+    };
+    assert_eq!(rt; config(b""), Ok(least));
+    assert_eq!(rt; config(b"TCB = 3\n"), Err(ConfError::Range { line: 1 }));
+    assert_eq!(rt;
+        config(b"BOOT=\n\t TCB\t=10 \nTCB = 3"),
+        Err(ConfError::BadLine { line: 3 })
+    );
+    assert_eq!(rt;
+        config(b"TCB = 6\r\r\n"),
+        Err(ConfError::BadLine { line: 1 })
+    );
+    assert_eq!(rt; config(b"tcb = 6"), Err(ConfError::BadLine { line: 1 }));
 }

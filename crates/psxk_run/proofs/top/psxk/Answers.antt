@@ -1,5 +1,5 @@
 use Rattle.psxk_run.specs.Told.{told}
-use Rattle.psxk_run.proofs.Answering.{is-listed, is-done, is-refused, is-answer, is-unread, is-unsent, is-quiet, is-memory, in-part}
+use Rattle.psxk_run.proofs.Answering.{is-listed, is-done, is-refused, is-answer, is-unread, is-unsent, is-memory, in-part}
 use Rattle.psxk_run.proofs.top.psxk.Goals as goal
 
 pub returns-in-Some-clause-listed : goal.returns-in-Some-clause-listed
