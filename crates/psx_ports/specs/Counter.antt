@@ -1,5 +1,5 @@
 -- A root counter (PSX-SPX, Timers), by the accesses to it so far, newest first: its value in closed form, and what its turns did.
-use Rattle.std.specs.Prelude.{ℕ, zero, suc, ◌+◌, ◌-◌, ◌/◌, ◌%◌, ◌^◌, Bool, true, false, not, ◌&&◌, ◌||◌, nat_eq, nat_lt, nat_le, List, [], ◌∷◌, if◌then◌else◌}
+use Rattle.std.specs.Prelude.{◌≡◌, ℕ, zero, suc, ◌+◌, ◌-◌, ◌/◌, ◌%◌, ◌^◌, ◌<◌, Bool, true, false, not, ◌&&◌, ◌||◌, nat_eq, nat_lt, nat_le, List, [], ◌∷◌, if◌then◌else◌}
 use Rattle.std.specs.Int.{bit_at}
 
 -- whether a bit of a word is set
@@ -53,6 +53,18 @@ after_turns s k =
     if resets s && nat_le s.value s.target then (s.value + k) % (s.target + 1)
     else (if nat_lt (s.value + k) 0x10000 then s.value + k
     else (if resets s then (s.value + k - 0x10000) % (s.target + 1) else (s.value + k - 0x10000) % 0x10000))
+
+-- one turn more: 0 comes after FFFFh, and with mode bit 3 after a target that isn't 0
+abbrev pub turn : Setting → ℕ → ℕ
+turn s value = if nat_eq value 0xFFFF || (resets s && nat_eq value s.target) then 0 else value + 1
+
+-- the rule of k turns is k times the rule of one
+pub record IsTurnByTurn (s : Setting) : Type 0 where
+  pub first : after_turns s 0 ≡ s.value
+  pub next : (k : ℕ) → after_turns s (k + 1) ≡ turn s (after_turns s k)
+
+abbrev pub TurnsAreTurnByTurn : Type 0
+TurnsAreTurnByTurn = (s : Setting) → s.value < 2 ^ 16 → s.target < 2 ^ 16 → IsTurnByTurn s
 
 -- the value at a count
 unfoldable pub value_at : ℕ → Setting → ℕ → ℕ
