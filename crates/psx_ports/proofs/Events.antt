@@ -8,7 +8,7 @@ use Rattle.psx_ports.specs.Counter.{Act, SetValue, SetMode, SetTarget, TakeMode,
 use Rattle.psx_ports.specs.KeptCounter.{KeptCounter, Follows}
 use Rattle.psx_ports.specs.Interrupts.{with_pending, with_mask}
 use Rattle.psx_ports.specs.History.{History, Event, Read, Write, Raise, Give, then_event, acts_of, last_written, then_act, mode_port, value_port, target_port, i_stat, due, is_counter_port}
-use Rattle.psx_ports.specs.Stands.{Kept, KeptCounters, StandsFor, StandsCounter, StandCounters, least_next}
+use Rattle.psx_ports.specs.Stands.{Kept, KeptCounters, StandsFor, CounterStands, CountersStand, least_next}
 use Rattle.psx_ports.proofs.Pending.{stat-same, stat-raised, stat-acknowledged}
 
 -- ---- addresses
@@ -44,13 +44,13 @@ write-apart at count value t acts outside h =
 
 -- ---- counters that an event leaves alone
 
-counter-apart : (t : ℕ) (k : KeptCounter) (events : List Event) (now : ℕ) (event : Event) → StandsCounter t k events now → then_act t event (acts_of t events) ≡ acts_of t events
-    → StandsCounter t k (event ∷ events) now
+counter-apart : (t : ℕ) (k : KeptCounter) (events : List Event) (now : ℕ) (event : Event) → CounterStands t k events now → then_act t event (acts_of t events) ≡ acts_of t events
+    → CounterStands t k (event ∷ events) now
 counter-apart t k events now event s same =
     record { number = s.number; follows = subst (λ (acts : List Act). Follows k acts now) (sym same) s.follows; ahead = s.ahead; later = s.later }
 
-counters-apart : (k : KeptCounters) (events : List Event) (now : ℕ) (event : Event) → StandCounters k events now → ((t : ℕ) (acts : List Act) → t ≤ 2 → then_act t event acts ≡ acts)
-    → StandCounters k (event ∷ events) now
+counters-apart : (k : KeptCounters) (events : List Event) (now : ℕ) (event : Event) → CountersStand k events now → ((t : ℕ) (acts : List Act) → t ≤ 2 → then_act t event acts ≡ acts)
+    → CountersStand k (event ∷ events) now
 counters-apart k events now event s same = record {
   zero = counter-apart 0 k.zero events now event s.zero (same 0 (acts_of 0 events) (omega arith));
   one = counter-apart 1 k.one events now event s.one (same 1 (acts_of 1 events) (omega arith));
@@ -127,7 +127,7 @@ stands-taken k h s = record {
 }
 
 pub stands-read : (k : Kept) (h : History) (at deadline : ℕ) (counters : KeptCounters) → StandsFor k h → is_counter_port at ≡ true
-    → StandCounters counters (Read h.now at ∷ h.events) h.now → deadline ≡ least_next counters → StandsFor (record k { counters = counters; deadline = deadline }) (then_event h (Read h.now at))
+    → CountersStand counters (Read h.now at ∷ h.events) h.now → deadline ≡ least_next counters → StandsFor (record k { counters = counters; deadline = deadline }) (then_event h (Read h.now at))
 stands-read k h at deadline counters s inside stands least = record {
   given = s.given;
   a = s.a;
@@ -153,7 +153,7 @@ kept : (at port value before : ℕ) → nat_eq at port ≡ false → (if nat_eq 
 kept at port value before other = ap (λ b. if b then value else before) other
 
 pub stands-written : (k : Kept) (h : History) (at value deadline : ℕ) (counters : KeptCounters) → StandsFor k h → is_counter_port at ≡ true
-    → StandCounters counters (Write h.now at value ∷ h.events) h.now → deadline ≡ least_next counters → StandsFor (record k { counters = counters; deadline = deadline }) (then_event h (Write h.now at value))
+    → CountersStand counters (Write h.now at value ∷ h.events) h.now → deadline ≡ least_next counters → StandsFor (record k { counters = counters; deadline = deadline }) (then_event h (Write h.now at value))
 stands-written k h at value deadline counters s inside stands least = record {
   given = s.given;
   a = s.a ∙ sym (kept at HALT_A value (last_written h.events HALT_A) (within at HALT_A inside (inr (omega arith))));

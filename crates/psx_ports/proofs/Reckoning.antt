@@ -1,11 +1,11 @@
 -- A counter's value reckoned in laps, from an earlier count or a later one, and the first turn that brings it to a number.
 use Rattle.std.proofs.Common.{◌≡◌, ◌≢◌, ℕ, zero, suc, ◌+◌, ◌-◌, ◌*◌, ◌/◌, ◌%◌, ◌≤◌, ◌<◌, Bool, true, false, ◌⊎◌, inl, inr, refl, sym, ap, ap₂, subst, ◌∙◌, arith, add-zero, mod-eq_of_lt}
-use Rattle.std.specs.Prelude.{not, ◌&&◌, nat_eq, nat_lt, nat_le, if◌then◌else◌}
+use Rattle.std.specs.Prelude.{not, ◌&&◌, ◌||◌, nat_eq, nat_lt, nat_le, if◌then◌else◌}
 use native.Mathlib.Nat.{mod-eq-sub-mod, mod-add-mod, div-mul-le_self, mul-mod_left, mul-div_left, mul-le-mul_right, div-add-mod', suc-mul}
 use Rattle.std.proofs.lemmas.Nat.{le-div}
 use Rattle.std.proofs.lemmas.Bool.{cases_lt, eqb-true, eq-eqb}
 use Rattle.std.proofs.lemmas.Bool.Decides.{nat_tests, eqb_tells}
-use Rattle.psx_ports.specs.Counter.{Setting, bit, resets, after_turns, value_at, clock, meets}
+use Rattle.psx_ports.specs.Counter.{Setting, IsTurnByTurn, turn, bit, resets, after_turns, value_at, clock, meets}
 use Rattle.psx_ports.specs.Laps.{limit_of, top_of, lap, IsFirst, IsNever, IsFirstMeeting}
 
 -- ---- the top of the first lap
@@ -238,3 +238,42 @@ unfolding value_at
 value-now t s small low =
     ap (after_turns s) (let e : s.since / clock t s.mode - s.since / clock t s.mode ≡ 0 = omega arith in e) ∙ after-turns s 0 small low
     ∙ (lap-first s.value (limit_of s) 0 (elim (top-cases s.value (limit_of s)) [ inl a ↦ omega arith | inr a ↦ omega arith ]) ∙ add-zero s.value)
+
+-- ---- one turn
+
+-- a lap's end
+ends : (w l : ℕ) → top_of w l < w + 1 → w ≤ 0xFFFF → l ≤ 0xFFFF → lap w l 1 ≡ 0
+ends w l past small low =
+    let high = top-above w l small in
+    lap-later w l 1 past ∙ ap (λ n. n % (l + 1)) (let e : w + 1 - (top_of w l + 1) ≡ 0 = omega arith in e) ∙ mod-eq_of_lt (omega arith)
+
+lap-once : (w l : ℕ) → w ≤ 0xFFFF → l ≤ 0xFFFF → lap w l 1 ≡ (if nat_eq w 0xFFFF || nat_eq w l then 0 else w + 1)
+lap-once w l small low = elim (top-cases w l) [
+  | inl (below, top) ↦ elim (cases_lt w l) [
+    | inl less ↦ grind (arith, nat_tests, lap-first w l 1)
+    | inr at ↦ grind (arith, nat_tests, ends w l)
+  ]
+  | inr (above, top) ↦ elim (cases_lt w 0xFFFF) [
+    | inl less ↦ grind (arith, nat_tests, lap-first w l 1)
+    | inr at ↦ grind (arith, nat_tests, ends w l)
+  ]
+]
+
+either_end : (r : Bool) (w t : ℕ) → (nat_eq w 0xFFFF || nat_eq w (if r then t else 0xFFFF)) ≡ (nat_eq w 0xFFFF || (r && nat_eq w t))
+either_end true w t = refl
+either_end false w t = twice (nat_eq w 0xFFFF) where
+  twice : (b : Bool) → (b || b) ≡ (b || false)
+  twice true = refl
+  twice false = refl
+
+pub turn-by-turn : (s : Setting) → s.value ≤ 0xFFFF → s.target ≤ 0xFFFF → IsTurnByTurn s
+turn-by-turn s small low =
+    let l = limit_of s in
+    let limit_low : l ≤ 0xFFFF = limit-small (resets s) s.target low in
+    record {
+      first = after-turns s 0 small low ∙ lap-first s.value l 0 (let high = top-above s.value l small in omega arith) ∙ add-zero s.value;
+      next = λ k.
+          let w = lap s.value l k in
+          after-turns s (k + 1) small low ∙ sym (lap-add s.value l k 1) ∙ lap-once w l (lap-small s.value l k small limit_low) limit_low
+          ∙ ap (λ b. if b then 0 else w + 1) (either_end (resets s) w s.target) ∙ ap (turn s) (sym (after-turns s k small low));
+    }

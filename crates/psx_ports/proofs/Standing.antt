@@ -5,7 +5,7 @@ use Rattle.psx_ports.specs.Counter.{happens, raises}
 use Rattle.psx_ports.specs.KeptCounter.{KeptCounter}
 use Rattle.psx_ports.specs.Interrupts.{with_pending}
 use Rattle.psx_ports.specs.History.{History, Event, at_count, acts_of, turned, word_of, i_stat, line}
-use Rattle.psx_ports.specs.Stands.{Kept, KeptCounters, StandsFor, StandsCounter, StandCounters, least_next}
+use Rattle.psx_ports.specs.Stands.{Kept, KeptCounters, StandsFor, CounterStands, CountersStand, least_next}
 use Rattle.psx_ports.proofs.Following.{follows-later, nothing-raised}
 use Rattle.psx_ports.proofs.Pending.{stat-later, stat-stays}
 
@@ -20,17 +20,17 @@ least-one k = omega arith
 least-two : (k : KeptCounters) → least_next k ≤ k.two.next
 least-two k = omega arith
 
-counter-quiet : (t : ℕ) (k : KeptCounter) (events : List Event) (now n : ℕ) → StandsCounter t k events now → n < k.next → happens (raises t (acts_of t events)) now n ≡ false
+counter-quiet : (t : ℕ) (k : KeptCounter) (events : List Event) (now n : ℕ) → CounterStands t k events now → n < k.next → happens (raises t (acts_of t events)) now n ≡ false
 counter-quiet t k events now n s h =
     subst (λ t'. happens (raises t' (acts_of t events)) now n ≡ false) s.number (nothing-raised k (acts_of t events) now n s.follows s.ahead h)
 
-quiet : (k : KeptCounters) (events : List Event) (now n : ℕ) → StandCounters k events now → n < least_next k → (t : ℕ) → t ≤ 2 → happens (raises t (acts_of t events)) now n ≡ false
+quiet : (k : KeptCounters) (events : List Event) (now n : ℕ) → CountersStand k events now → n < least_next k → (t : ℕ) → t ≤ 2 → happens (raises t (acts_of t events)) now n ≡ false
 quiet k events now n s h zero l = counter-quiet 0 k.zero events now n s.zero (omega arith)
 quiet k events now n s h (suc zero) l = counter-quiet 1 k.one events now n s.one (omega arith)
 quiet k events now n s h (suc (suc zero)) l = counter-quiet 2 k.two events now n s.two (omega arith)
 quiet k events now n s h (suc (suc (suc t))) l = absurd (omega arith)
 
-counter-later : (t : ℕ) (k : KeptCounter) (events : List Event) (now n : ℕ) → StandsCounter t k events now → now ≤ n → n < k.next → StandsCounter t k events n
+counter-later : (t : ℕ) (k : KeptCounter) (events : List Event) (now n : ℕ) → CounterStands t k events now → now ≤ n → n < k.next → CounterStands t k events n
 counter-later t k events now n s h l = record { number = s.number; follows = follows-later k (acts_of t events) now n s.follows s.ahead h l; ahead = s.ahead; later = λ a. l }
 
 -- before the deadline no line is raised
@@ -59,7 +59,7 @@ stands-before k h n s a b = record {
 
 -- the turns up to a count that isn't before it
 pub stands-passed : (k : Kept) (h : History) (n lines deadline : ℕ) (counters : KeptCounters) → StandsFor k h → h.now ≤ n
-    → lines ≡ word_of (λ m. turned m h.events h.now n) 11 → StandCounters counters h.events n → deadline ≡ least_next counters
+    → lines ≡ word_of (λ m. turned m h.events h.now n) 11 → CountersStand counters h.events n → deadline ≡ least_next counters
     → StandsFor (record k { counters = counters; interrupts = with_pending k.interrupts (bit_or k.interrupts.pending lines); now = n; deadline = deadline }) (at_count h n)
 stands-passed k h n lines deadline counters s a is stands least = record {
   given = s.given;

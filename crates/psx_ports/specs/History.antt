@@ -37,6 +37,7 @@ then_event h event = record h { events = event ∷ h.events }
 abbrev pub at_count : History → ℕ → History
 at_count h count = record h { now = count }
 
+-- the count of an event
 abbrev pub moment : Event → ℕ
 moment (Read count at) = count
 moment (Write count at value) = count
@@ -53,6 +54,7 @@ last_written (Give count byte ∷ before) at = last_written before at
 
 -- ---- counters
 
+-- the addresses of counter t's ports
 abbrev pub value_port : ℕ → ℕ
 value_port t = COUNTERS + 0x10 * t
 
@@ -76,6 +78,7 @@ then_act t (Write count at value) acts =
 then_act t (Raise count line) acts = acts
 then_act t (Give count byte) acts = acts
 
+-- the accesses to counter t
 abbrev pub acts_of : ℕ → List Event → List Act
 acts_of t [] = []
 acts_of t (event ∷ before) = then_act t event (acts_of t before)
@@ -103,10 +106,11 @@ abbrev pub word_of : (ℕ → Bool) → ℕ → ℕ
 word_of p zero = 0
 word_of p (suc n) = word_of p n + (if p n then 2 ^ n else 0)
 
--- the pending lines, and those that may interrupt
+-- the pending lines
 unfoldable pub i_stat : History → ℕ
 i_stat h = word_of (λ n. pending n h.events h.now) 11
 
+-- those that may interrupt
 abbrev pub i_mask : History → ℕ
 i_mask h = last_written h.events I_MASK % 2 ^ 11
 
@@ -124,10 +128,12 @@ due (Read count at ∷ before) = if nat_eq at CONSOLE_DATA then drop 1 (due befo
 due (Write count at value ∷ before) = due before
 due (Raise count line ∷ before) = due before
 
+-- 1 where a byte is due
 abbrev pub status_of : List ℕ → ℕ
 status_of [] = 0
 status_of (byte ∷ bytes) = 1
 
+-- the first due byte, or 0
 abbrev pub first_of : List ℕ → ℕ
 first_of [] = 0
 first_of (byte ∷ bytes) = byte
@@ -160,6 +166,7 @@ answer h at =
     else (if nat_eq at CONSOLE_DATA then first_of (due h.events)
     else start_answer h.given at (counters_answer h.events h.now at))))
 
+-- what a write of the halt port does
 abbrev pub halted : Option Stop → PortDid
 halted None = Quiet
 halted (Some stop) = Halt stop

@@ -15,6 +15,7 @@ pub record KeptCounter : Type 0 where
 unfoldable pub raises_line : KeptCounter → ℕ → Bool
 raises_line k count = asks k.number k.setting count && (bit k.setting.mode 6 || not (k.asked || happens (asks k.number k.setting) k.setting.since (count - 1)))
 
+-- the count of the last access, or 0
 abbrev pub last_time : List Act → ℕ
 last_time [] = 0
 last_time (act ∷ before) = time act

@@ -19,16 +19,18 @@ pub record AreSince (k : KeptCounters) (count : ℕ) : Type 0 where
   pub one : k.one.setting.since ≤ count
   pub two : k.two.setting.since ≤ count
 
-pub record StandsCounter (t : ℕ) (k : KeptCounter) (events : List Event) (now : ℕ) : Type 0 where
+-- counter t stands for the accesses among the events
+pub record CounterStands (t : ℕ) (k : KeptCounter) (events : List Event) (now : ℕ) : Type 0 where
   pub number : k.number ≡ t
   pub follows : Follows k (acts_of t events) now
   pub ahead : IsAhead k
   pub later : now < 2 ^ 64 - 1 → now < k.next
 
-pub record StandCounters (k : KeptCounters) (events : List Event) (now : ℕ) : Type 0 where
-  pub zero : StandsCounter 0 k.zero events now
-  pub one : StandsCounter 1 k.one events now
-  pub two : StandsCounter 2 k.two events now
+-- and so do all three
+pub record CountersStand (k : KeptCounters) (events : List Event) (now : ℕ) : Type 0 where
+  pub zero : CounterStands 0 k.zero events now
+  pub one : CounterStands 1 k.one events now
+  pub two : CounterStands 2 k.two events now
 
 -- ---- all ports
 
@@ -44,13 +46,16 @@ pub record Kept : Type 0 where
   pub now : ℕ
   pub deadline : ℕ
 
+-- the count of the last event, or 0
 abbrev pub last_moment : List Event → ℕ
 last_moment [] = 0
 last_moment (event ∷ before) = moment event
 
+-- the least of the counts before which a counter raises nothing
 abbrev pub least_next : KeptCounters → ℕ
 least_next k = min k.zero.next (min k.one.next k.two.next)
 
+-- the ports answer as the history says, now and later
 pub record StandsFor (kept : Kept) (h : History) : Type 0 where
   pub given : kept.given ≡ h.given
   pub a : kept.a ≡ last_written h.events HALT_A
@@ -60,7 +65,7 @@ pub record StandsFor (kept : Kept) (h : History) : Type 0 where
   pub pending : kept.interrupts.pending ≡ i_stat h
   pub mask : kept.interrupts.mask ≡ i_mask h
   pub line : kept.interrupts.line ≡ not (nat_eq (bit_and kept.interrupts.pending kept.interrupts.mask) 0)
-  pub counters : StandCounters kept.counters h.events h.now
+  pub counters : CountersStand kept.counters h.events h.now
   pub now : kept.now ≡ h.now
   pub latest : last_moment h.events ≤ h.now
   pub deadline : kept.deadline ≡ least_next kept.counters

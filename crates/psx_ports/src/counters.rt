@@ -2,12 +2,13 @@
 ghost use Rattle.std.specs.Prelude.{◌≡◌, ℕ, ◌-◌, ◌^◌, ◌<◌, ◌≤◌, [], ◌∷◌, List, min};
 ghost use Rattle.psx_ports.specs.History;
 ghost use Rattle.psx_ports.specs.History.{Event, Read, Write, turned, word_of, counters_answer};
-ghost use Rattle.psx_ports.specs.Stands.{StandCounters, AreSince, least_next};
+ghost use Rattle.psx_ports.specs.Stands.{CountersStand, AreSince, least_next};
 
 use crate::counter::Counter;
 use psx_base::ports::COUNTERS;
 use std::marker::Model;
 
+// The ports of the counters (PSX-SPX, Timers).
 const VALUE_0: u32 = COUNTERS;
 
 const MODE_0: u32 = COUNTERS + 0x04;
@@ -52,7 +53,7 @@ impl Model for Counters {
 impl Counters {
     /// The counters as they are after reset, at the count 0.
     pub fn new() -> Counters
-        ensures { StandCounters result [] 0 }
+        ensures { CountersStand result [] 0 }
     {
         Counters {
             zero: Counter::new(0),
@@ -71,8 +72,8 @@ impl Counters {
     /// Makes the turns up to a count, and tells by their bits which lines were raised.
     pub fn turn_to(&mut self, count: u64) -> u32
         requires { AreSince self.old count }
-        ensures raised { (events : List Event) (m : ℕ) → StandCounters self.old events m → m ≤ count → result ≡ word_of (λ n. turned n events m count) 11 }
-        ensures stands { (events : List Event) (m : ℕ) → StandCounters self.old events m → m ≤ count → StandCounters self.new events count }
+        ensures raised { (events : List Event) (m : ℕ) → CountersStand self.old events m → m ≤ count → result ≡ word_of (λ n. turned n events m count) 11 }
+        ensures stands { (events : List Event) (m : ℕ) → CountersStand self.old events m → m ≤ count → CountersStand self.new events count }
         ensures since { AreSince self.new count }
     {
         let zero = (self.zero.turn_to(count) as u32) << 4;
@@ -85,8 +86,8 @@ impl Counters {
     #[tactic(auto, unfolding(crate::specs::History::counters_answer))]
     pub fn read(&mut self, count: u64, at: u32) -> u32
         requires { AreSince self.old count }
-        ensures value { (events : List Event) → StandCounters self.old events count → result ≡ counters_answer events count at }
-        ensures stands { (events : List Event) → StandCounters self.old events count → StandCounters self.new (Read count at ∷ events) count }
+        ensures value { (events : List Event) → CountersStand self.old events count → result ≡ counters_answer events count at }
+        ensures stands { (events : List Event) → CountersStand self.old events count → CountersStand self.new (Read count at ∷ events) count }
         ensures since { AreSince self.new count }
     {
         match at {
@@ -106,7 +107,7 @@ impl Counters {
     /// Writes to the port of a counter at a count up to which all turns are made; nothing happens at another port.
     pub fn write(&mut self, count: u64, at: u32, value: u32)
         requires { AreSince self.old count }
-        ensures stands { (events : List Event) → StandCounters self.old events count → StandCounters self.new (Write count at value ∷ events) count }
+        ensures stands { (events : List Event) → CountersStand self.old events count → CountersStand self.new (Write count at value ∷ events) count }
         ensures since { AreSince self.new count }
     {
         match at {

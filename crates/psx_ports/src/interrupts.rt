@@ -4,8 +4,11 @@ ghost use Rattle.std.specs.Prelude.{◌≡◌, ◌%◌, ◌^◌, ◌<◌, ◌≤
 /// The pending lines and the mask, 11 bits each, and whether a pending line isn't masked.
 #[derive(Clone, Copy)]
 pub struct Interrupts {
+    /// I_STAT.
     pub pending: u32,
+    /// I_MASK.
     pub mask: u32,
+    /// The line to the processor.
     pub line: bool,
 }
 

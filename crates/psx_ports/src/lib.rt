@@ -8,11 +8,13 @@ mod counters;
 mod halts;
 mod interrupts;
 mod laps;
+mod laws;
 mod ports;
 #[cfg(test)]
 mod tests;
 
-pub use ports::{Ports, line_stays};
+pub use laws::{line_stays, turn_by_turn};
+pub use ports::Ports;
 use psx_base::Stop;
 
 /// What a write did beyond its port.

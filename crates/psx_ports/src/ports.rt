@@ -3,7 +3,7 @@ ghost use Rattle.std.specs.Prelude.{◌≡◌, ◌≢◌, false, ℕ, ◌+◌, �
 ghost use Rattle.psx_base.specs.PortAddresses.{port};
 ghost use Rattle.psx_ports.specs.History;
 ghost use Rattle.psx_ports.specs.History.{History, Read, Write, Raise, Give, then_event, at_count, answer, written, is_counter_port};
-ghost use Rattle.psx_ports.specs.Stands.{StandsFor, LineStays, DeadlineIsLater};
+ghost use Rattle.psx_ports.specs.Stands.{StandsFor};
 
 use crate::PortDid;
 use crate::console::{Console, ROOM};
@@ -213,9 +213,3 @@ impl Ports {
         PortDid::Quiet
     }
 }
-
-/// Before the deadline no count changes the interrupt line: who keeps the line need not ask for it again until then.
-pub fn line_stays()
-    ensures line { LineStays }
-    ensures later { DeadlineIsLater }
-{}

@@ -2,13 +2,13 @@ use Rattle.std.proofs.Common.{◌≡◌, ℕ, ◌-◌, ◌^◌, ◌≤◌, ◌<�
 use Rattle.psx_ports.specs.Counter.{Act}
 use Rattle.psx_ports.specs.History.{Event, acts_of}
 use Rattle.psx_ports.specs.KeptCounter.{KeptCounter, Follows, IsAhead}
-use Rattle.psx_ports.specs.Stands.{KeptCounters, StandsCounter}
+use Rattle.psx_ports.specs.Stands.{KeptCounters, CounterStands}
 use Rattle.psx_ports.proofs.counters.Counters.turn_to.Goals as goal
 
 -- a counter whose turns are made stands for the same events
-turned : (t : ℕ) (old k new : KeptCounter) (events : List Event) (m count : ℕ) → k ≡ old → StandsCounter t old events m → m ≤ count
+turned : (t : ℕ) (old k new : KeptCounter) (events : List Event) (m count : ℕ) → k ≡ old → CounterStands t old events m → m ≤ count
     → ((acts : List Act) (m : ℕ) → Follows k acts m → m ≤ count → Follows new acts count) → new.number ≡ k.number → IsAhead new → (count < 2 ^ 64 - 1 → count < new.next)
-    → StandsCounter t new events count
+    → CounterStands t new events count
 turned t old k new events m count same s h follows number ahead later = record {
   number = number ∙ ap (λ (k : KeptCounter). k.number) same ∙ s.number;
   follows = follows (acts_of t events) m (subst (λ (k : KeptCounter). Follows k (acts_of t events) m) (sym same) s.follows) h;

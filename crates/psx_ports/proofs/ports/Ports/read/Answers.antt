@@ -3,7 +3,7 @@ use Rattle.std.proofs.lemmas.Bool.Decides.{nat_tests}
 use Rattle.psx_base.specs.declared.ports.TheConstants.{CONSOLE_DATA}
 use Rattle.psx_ports.specs.contracts.ports.Ports.{the_view}
 use Rattle.psx_ports.specs.History.{Read, then_event, answer, counters_answer, first_of}
-use Rattle.psx_ports.specs.Stands.{Kept, StandsFor, StandCounters}
+use Rattle.psx_ports.specs.Stands.{Kept, StandsFor, CountersStand}
 use Rattle.psx_ports.proofs.Events.{stands-looked, stands-taken, stands-read}
 use Rattle.psx_ports.proofs.Answering.{answer-data, answer-counter}
 use Rattle.psx_ports.proofs.ports.Ports.read.Goals as goal
@@ -24,7 +24,7 @@ pub returns-then-is_counter_port-clause-value : goal.returns-then-is_counter_por
 returns-then-is_counter_port-clause-value c = λ h s.
     let k = the_view c.self.inside in
     let opened = subst (λ (k : Kept). StandsFor k h) (sym c.self.view_is) s in
-    c.read-value.ensures.value h.events (subst (λ (n : ℕ). StandCounters k.counters h.events n) (sym opened.now) opened.counters)
+    c.read-value.ensures.value h.events (subst (λ (n : ℕ). CountersStand k.counters h.events n) (sym opened.now) opened.counters)
     ∙ ap (λ n. counters_answer h.events n c.args.at) opened.now ∙ sym (answer-counter h c.args.at (sym c.is_counter_port.ensures ∙ c.if-is_counter_port.true))
 
 pub returns-then-is_counter_port-clause-stands : goal.returns-then-is_counter_port-clause-stands
@@ -32,8 +32,8 @@ returns-then-is_counter_port-clause-stands c = λ h s.
     let k = the_view c.self.inside in
     let opened = subst (λ (k : Kept). StandsFor k h) (sym c.self.view_is) s in
     stands-read k h c.args.at c.next-self-inside.result c.read-value.new.self opened (sym c.is_counter_port.ensures ∙ c.if-is_counter_port.true)
-    (subst (λ (n : ℕ). StandCounters c.read-value.new.self (Read n c.args.at ∷ h.events) n) opened.now
-    (c.read-value.ensures.stands h.events (subst (λ (n : ℕ). StandCounters k.counters h.events n) (sym opened.now) opened.counters)))
+    (subst (λ (n : ℕ). CountersStand c.read-value.new.self (Read n c.args.at ∷ h.events) n) opened.now
+    (c.read-value.ensures.stands h.events (subst (λ (n : ℕ). CountersStand k.counters h.events n) (sym opened.now) opened.counters)))
     c.next-self-inside.ensures
 
 pub returns-clause-stands : goal.returns-clause-stands

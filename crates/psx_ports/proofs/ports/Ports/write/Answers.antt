@@ -4,7 +4,7 @@ use Rattle.psx_base.specs.declared.ports.TheConstants.{I_STAT, I_MASK, CONSOLE_D
 use Rattle.psx_ports.specs.contracts.ports.Ports.{the_view}
 use Rattle.psx_ports.specs.declared.interrupts.Interrupts.{Interrupts}
 use Rattle.psx_ports.specs.History.{Write, then_event}
-use Rattle.psx_ports.specs.Stands.{Kept, StandsFor, StandCounters}
+use Rattle.psx_ports.specs.Stands.{Kept, StandsFor, CountersStand}
 use Rattle.psx_ports.proofs.Events.{stands-written, stands-acknowledged, stands-masked, stands-kept}
 use Rattle.psx_ports.proofs.ports.Ports.write.Goals as goal
 
@@ -13,8 +13,8 @@ returns-then-is_counter_port-clause-stands c = λ h s.
     let k = the_view c.self.inside in
     let opened = subst (λ (k : Kept). StandsFor k h) (sym c.self.view_is) s in
     stands-written k h c.args.at c.args.value c.next-self-inside.result c.write.new.self opened (sym c.is_counter_port.ensures ∙ c.if-is_counter_port.true)
-    (subst (λ (n : ℕ). StandCounters c.write.new.self (Write n c.args.at c.args.value ∷ h.events) n) opened.now
-    (c.write.ensures.stands h.events (subst (λ (n : ℕ). StandCounters k.counters h.events n) (sym opened.now) opened.counters)))
+    (subst (λ (n : ℕ). CountersStand c.write.new.self (Write n c.args.at c.args.value ∷ h.events) n) opened.now
+    (c.write.ensures.stands h.events (subst (λ (n : ℕ). CountersStand k.counters h.events n) (sym opened.now) opened.counters)))
     c.next-self-inside.ensures
 
 pub returns-in-528490756-clause-stands : goal.returns-in-528490756-clause-stands

@@ -1,5 +1,5 @@
 use Rattle.psx_ports.proofs.Deadlines.{line-stays, deadline-later}
-use Rattle.psx_ports.proofs.ports.line_stays.Goals as goal
+use Rattle.psx_ports.proofs.laws.line_stays.Goals as goal
 
 pub returns-clause-line : goal.returns-clause-line
 returns-clause-line c = line-stays
