@@ -4,6 +4,8 @@
 
 mod file_host;
 #[cfg(test)]
+mod inputs;
+#[cfg(test)]
 mod programs;
 #[cfg(test)]
 mod refusals;

@@ -12,7 +12,7 @@ fn knows_its_words(rt: HostRuntime) {
         &["run"][..],
         &["run", "a", "-", "0"],
         &[],
-        &["run", "a.exe", "x", "1"],
+        &["run", "a.exe", "x", "1", "c", "d"],
         &["--help"],
     ] {
         let mut host = host_with(&rt, &program(&rt, &HELLO));
