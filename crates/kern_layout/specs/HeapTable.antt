@@ -1,0 +1,27 @@
+-- The heap's blocks as a linked table. An entry has the next one's address at 0, so a list is read from the address of the word that names its first entry: a variable, or an entry.
+use Rattle.std.specs.Prelude.{◌≡◌, ℕ, zero, suc, ◌+◌, ◌-◌, ◌*◌, ◌<◌, Bool, List, [], ◌∷◌, length, if◌then◌else◌}
+use Rattle.psx_base.specs.KernelState.{Heap}
+use Rattle.kern_layout.specs.Fields.{Fields, Block}
+
+-- an entry's address
+abbrev pub IsEntry : ℕ → Type 0
+IsEntry e = (k : ℕ) × (k < 512) × (e ≡ 0xD000 + 12 * k)
+
+-- the size and use of a block, in its entry
+abbrev pub entry_fields : ℕ × Bool → Fields
+entry_fields b = (4, b.0) ∷ (8, if b.1 then 1 else 0) ∷ []
+
+-- the entries from the one that the word at `cell` names are these blocks, in order
+abbrev pub Linked : (ℕ → ℕ) → ℕ → List (ℕ × Bool) → Type 0
+Linked w cell [] = w cell ≡ 0
+Linked w cell (b ∷ bs) = IsEntry (w cell) × Block w (w cell) (entry_fields b) × Linked w (w cell) bs
+
+-- so many spare entries follow from there, each with the size 0
+abbrev pub Spare : (ℕ → ℕ) → ℕ → ℕ → Type 0
+Spare w cell zero = w cell ≡ 0
+Spare w cell (suc n) = IsEntry (w cell) × (w (w cell + 4) ≡ 0) × Spare w (w cell) n
+
+-- the blocks are linked from one variable, and all other entries from another
+pub record HeapAt (w : ℕ → ℕ) (h : Heap) : Type 0 where
+  pub blocks : Linked w 0xEA40 h.blocks
+  pub spare : Spare w 0xEA44 (512 - length h.blocks)

@@ -1,0 +1,11 @@
+pub mod Ranges
+pub mod Numbers
+pub mod BlockWords
+pub mod Fields
+pub mod Contexts
+pub mod Tasks
+pub mod HeapTable
+pub mod Reads
+pub mod Valid
+pub mod Start
+pub mod Stands
