@@ -9,3 +9,4 @@ pub mod Reads
 pub mod Valid
 pub mod Start
 pub mod Stands
+pub mod Stores

@@ -22,9 +22,9 @@ file_fields n None = (0, 0) ∷ []
 file_fields n (Some mode) = (0, mode) ∷ []
 
 -- a chain: how many elements it has, and these, the head last
-pub record ChainAt (w : ℕ → ℕ) (at : ℕ) (elements : List ℕ) : Type 0 where
-  pub count : w at ≡ length elements
-  pub elements : Stack w (at + 4) elements
+pub record ChainAt (w : ℕ → ℕ) (at : ℕ) (es : List ℕ) : Type 0 where
+  pub count : w at ≡ length es
+  pub elements : Stack w (at + 4) es
 
 -- a thread's number and 1 more, or 0 for none
 abbrev pub next_word : Option ℕ → ℕ

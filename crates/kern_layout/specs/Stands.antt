@@ -41,4 +41,4 @@ pub record Stands (p : Side) (m : Memory) (s : KernelState) (rom : List ℕ) : T
   pub latch : p.latch ≡ false
   pub reads : Reads s (word m) (byte m)
   pub user : SameUser m s.memory
-  pub rom : HoldsRom m rom
+  pub code : HoldsRom m rom

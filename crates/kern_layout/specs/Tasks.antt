@@ -1,5 +1,5 @@
 -- The tasks of a frame: what is under way, then elements of chains, then lines; and how a frame has them.
-use Rattle.std.specs.Prelude.{◌≡◌, ℕ, List, [], ◌∷◌, ◌++◌, length, map}
+use Rattle.std.specs.Prelude.{◌≡◌, ℕ, ◌+◌, List, [], ◌∷◌, ◌++◌, length, map}
 use Rattle.psx_base.specs.KernelState.{Task, Element, Second, Line, Scan, Frame}
 use Rattle.kern_layout.specs.Fields.{Fields, Block, Stack}
 use Rattle.kern_layout.specs.Contexts.{saved}
