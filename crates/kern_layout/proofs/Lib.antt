@@ -1,3 +1,4 @@
 pub mod RangeLemmas
 pub mod Blocks
 pub mod Kept
+pub mod Written
