@@ -2,3 +2,4 @@ pub mod RangeLemmas
 pub mod Blocks
 pub mod Kept
 pub mod Written
+pub mod Moved
