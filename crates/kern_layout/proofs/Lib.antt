@@ -3,3 +3,4 @@ pub mod Blocks
 pub mod Kept
 pub mod Written
 pub mod Moved
+pub mod HeapLinks

@@ -25,3 +25,8 @@ Spare w cell (suc n) = IsEntry (w cell) × (w (w cell + 4) ≡ 0) × Spare w (w 
 pub record HeapAt (w : ℕ → ℕ) (h : Heap) : Type 0 where
   pub blocks : Linked w 0xEA40 h.blocks
   pub spare : Spare w 0xEA44 (512 - length h.blocks)
+
+-- the word from which the list goes on behind n entries: at first the word that names its first entry, then the entries themselves
+abbrev pub cell_at : (ℕ → ℕ) → ℕ → ℕ → ℕ
+cell_at w cell zero = cell
+cell_at w cell (suc n) = cell_at w (w cell) n
