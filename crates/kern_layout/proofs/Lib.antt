@@ -4,3 +4,4 @@ pub mod Kept
 pub mod Written
 pub mod Moved
 pub mod HeapLinks
+pub mod One

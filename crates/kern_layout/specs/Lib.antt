@@ -10,3 +10,4 @@ pub mod Valid
 pub mod Start
 pub mod Stands
 pub mod Stores
+pub mod Hidden
