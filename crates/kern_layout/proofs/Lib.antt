@@ -5,3 +5,4 @@ pub mod Written
 pub mod Moved
 pub mod HeapLinks
 pub mod One
+pub mod Made
