@@ -6,3 +6,5 @@ pub mod Moved
 pub mod HeapLinks
 pub mod One
 pub mod Made
+pub mod HeapMade
+pub mod MemoryMade

@@ -51,33 +51,33 @@ either : (b : Bool) (f : Fields) (low high : ℕ) → climbs low high f ≡ true
 either true f low high h = refl
 either false f low high h = h
 
-climb_thread : (current n : ℕ) (t : Thread) → climbs 0 0xC0 (thread_fields current n t) ≡ true
+pub climb_thread : (current n : ℕ) (t : Thread) → climbs 0 0xC0 (thread_fields current n t) ≡ true
 climb_thread current n Free = refl
 climb_thread current n (Used t) = either (nat_eq n current) (saved t) 1 0xC0 refl
 
-climb_event : (i : ℕ) (e : Event) → climbs 0 0x1C (event_fields i e) ≡ true
+pub climb_event : (i : ℕ) (e : Event) → climbs 0 0x1C (event_fields i e) ≡ true
 climb_event i e = refl
 
-climb_file : (n : ℕ) (f : Option ℕ) → climbs 0 4 (file_fields n f) ≡ true
+pub climb_file : (n : ℕ) (f : Option ℕ) → climbs 0 4 (file_fields n f) ≡ true
 climb_file n None = refl
 climb_file n (Some mode) = refl
 
-threads_quotient : (i o : ℕ) → o < 0xC0 → (0xB000 + 0xC0 * i + o - 0xB000) / 0xC0 ≡ i
+pub threads_quotient : (i o : ℕ) → o < 0xC0 → (0xB000 + 0xC0 * i + o - 0xB000) / 0xC0 ≡ i
 threads_quotient i o lt = omega arith
 
-threads_rest : (i o : ℕ) → o < 0xC0 → (0xB000 + 0xC0 * i + o - 0xB000) % 0xC0 ≡ o
+pub threads_rest : (i o : ℕ) → o < 0xC0 → (0xB000 + 0xC0 * i + o - 0xB000) % 0xC0 ≡ o
 threads_rest i o lt = omega arith
 
-events_quotient : (i o : ℕ) → o < 0x1C → (0xBC00 + 0x1C * i + o - 0xBC00) / 0x1C ≡ i
+pub events_quotient : (i o : ℕ) → o < 0x1C → (0xBC00 + 0x1C * i + o - 0xBC00) / 0x1C ≡ i
 events_quotient i o lt = omega arith
 
-events_rest : (i o : ℕ) → o < 0x1C → (0xBC00 + 0x1C * i + o - 0xBC00) % 0x1C ≡ o
+pub events_rest : (i o : ℕ) → o < 0x1C → (0xBC00 + 0x1C * i + o - 0xBC00) % 0x1C ≡ o
 events_rest i o lt = omega arith
 
-files_quotient : (i o : ℕ) → o < 4 → (0xE800 + 4 * i + o - 0xE800) / 4 ≡ i
+pub files_quotient : (i o : ℕ) → o < 4 → (0xE800 + 4 * i + o - 0xE800) / 4 ≡ i
 files_quotient i o lt = omega arith
 
-files_rest : (i o : ℕ) → o < 4 → (0xE800 + 4 * i + o - 0xE800) % 4 ≡ o
+pub files_rest : (i o : ℕ) → o < 4 → (0xE800 + 4 * i + o - 0xE800) % 4 ≡ o
 files_rest i o lt = omega arith
 
 -- the words of the three tables of blocks
