@@ -8,3 +8,4 @@ pub mod One
 pub mod Made
 pub mod HeapMade
 pub mod MemoryMade
+pub mod StartValid

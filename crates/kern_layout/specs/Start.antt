@@ -1,5 +1,5 @@
 -- The kernel's state as a program begins.
-use Rattle.std.specs.Prelude.{ℕ, ◌+◌, ◌-◌, ◌%◌, ◌^◌, true, false, List, [], ◌∷◌, replicate, Some, None}
+use Rattle.std.specs.Prelude.{ℕ, ◌≤◌, ◌+◌, ◌-◌, ◌%◌, ◌^◌, true, false, List, [], ◌∷◌, replicate, Some, None}
 use Rattle.psx_base.specs.declared.stop.Sizes.{Sizes}
 use Rattle.psx_base.specs.Memory.{Memory}
 use Rattle.psx_base.specs.Registers.{no_registers}
@@ -28,3 +28,10 @@ start pc gp stack memory sizes = record {
   line = [];
   errno = 0;
 }
+
+-- the sizes of the two tables
+pub record SizesFit (sizes : Sizes) : Type 0 where
+  pub threads_least : 4 ≤ sizes.threads
+  pub threads_most : sizes.threads ≤ 16
+  pub events_least : 16 ≤ sizes.events
+  pub events_most : sizes.events ≤ 64
