@@ -9,3 +9,4 @@ pub mod Made
 pub mod HeapMade
 pub mod MemoryMade
 pub mod StartValid
+pub mod Stored
