@@ -98,7 +98,7 @@ spare_avoids_longer w p e zero m h k le = tt
 spare_avoids_longer w p e (suc n) m h k le = ((λ q. let l : n ≡ m = spare_one w (w p) e n m q h.2 k in omega arith), spare_avoids_longer w (w p) e n m h.2 k (omega arith))
 
 -- a cell is the first one or an entry
-cell_place : (w : ℕ → ℕ) (cell : ℕ) (xs zs : Blocks) → Linked w cell (xs ++ zs) → (cell_at w cell (length xs) ≡ cell) ⊎ IsEntry (cell_at w cell (length xs))
+pub cell_place : (w : ℕ → ℕ) (cell : ℕ) (xs zs : Blocks) → Linked w cell (xs ++ zs) → (cell_at w cell (length xs) ≡ cell) ⊎ IsEntry (cell_at w cell (length xs))
 cell_place w cell [] zs h = inl refl
 cell_place w cell (x ∷ xs) zs h = inr (⊎_elim (λ e. subst IsEntry (sym e) h.0) (λ i. i) (cell_place w (w cell) xs zs h.2))
 

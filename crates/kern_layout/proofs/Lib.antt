@@ -10,3 +10,4 @@ pub mod HeapMade
 pub mod MemoryMade
 pub mod StartValid
 pub mod Stored
+pub mod HeapStored

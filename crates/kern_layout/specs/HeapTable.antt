@@ -1,5 +1,5 @@
 -- The heap's blocks as a linked table. An entry has the next one's address at 0, so a list is read from the address of the word that names its first entry: a variable, or an entry.
-use Rattle.std.specs.Prelude.{◌≡◌, ℕ, zero, suc, ◌+◌, ◌-◌, ◌*◌, ◌<◌, Bool, List, [], ◌∷◌, length, if◌then◌else◌}
+use Rattle.std.specs.Prelude.{◌≡◌, ◌⊎◌, ℕ, zero, suc, ◌+◌, ◌-◌, ◌*◌, ◌%◌, ◌<◌, ◌≤◌, Bool, List, [], ◌∷◌, length, if◌then◌else◌}
 use Rattle.psx_base.specs.KernelState.{Heap}
 use Rattle.kern_layout.specs.Fields.{Fields, Block}
 
@@ -30,3 +30,7 @@ pub record HeapAt (w : ℕ → ℕ) (h : Heap) : Type 0 where
 abbrev pub cell_at : (ℕ → ℕ) → ℕ → ℕ → ℕ
 cell_at w cell zero = cell
 cell_at w cell (suc n) = cell_at w (w cell) n
+
+-- Of the words of the data ranges only the one at d, the three of the entry e, and the one that names the first spare entry are written.
+abbrev pub LinksWritten : (w x : ℕ → ℕ) (d e : ℕ) → Type 0
+LinksWritten w x d e = (a : ℕ) → a % 4 ≡ 0 → 0xB000 ≤ a → a < 0xEB00 → (a ≡ d → ⊥) → (a ≡ 0xEA44 → ⊥) → (a < e) ⊎ (e + 12 ≤ a) → x a ≡ w a
