@@ -11,3 +11,4 @@ pub mod MemoryMade
 pub mod StartValid
 pub mod Stored
 pub mod HeapStored
+pub mod StandsMade

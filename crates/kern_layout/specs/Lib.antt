@@ -9,5 +9,8 @@ pub mod Reads
 pub mod Valid
 pub mod Start
 pub mod Stands
-pub mod Stores
 pub mod Hidden
+pub mod StateLaws
+pub mod OwnRange
+pub mod Stores
+pub mod StoreLaws

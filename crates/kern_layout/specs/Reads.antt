@@ -71,6 +71,21 @@ frame s n = slice_index_or s.frames n no_frame
 abbrev pub chain : KernelState → ℕ → List ℕ
 chain s p = slice_index_or s.chains p []
 
+-- the thread and event control blocks, by number; of the running thread the status alone is looked at
+abbrev pub ThreadsAt : (ℕ → ℕ) → (current : ℕ) → List Thread → Type 0
+ThreadsAt w current ts = Rows w 0xB000 0xC0 (thread_fields current) ts Free
+
+abbrev pub EventsAt : (ℕ → ℕ) → List Event → Type 0
+EventsAt w es = Rows w 0xBC00 0x1C event_fields es no_event
+
+-- the files
+abbrev pub FilesAt : (ℕ → ℕ) → List (Option ℕ) → Type 0
+FilesAt w fs = Rows w 0xE800 4 file_fields fs None
+
+-- the variables
+abbrev pub VariablesAt : (ℕ → ℕ) → KernelState → Type 0
+VariablesAt w s = Block w 0xEA00 (variables s)
+
 -- the frames, outermost first, and the chains
 abbrev pub FramesAt : (ℕ → ℕ) → List Frame → Type 0
 FramesAt w fs = (n : ℕ) → n < length fs → FrameAt w (frame_at n) (slice_index_or fs n no_frame)
@@ -84,11 +99,11 @@ LineAt b line = (k : ℕ) → k < length line → b (0xE900 + k) ≡ slice_index
 
 -- the kernel's words and bytes read as the state; the registers in the running thread's block aren't looked at, and the user's memory is no part of this
 pub record Reads (s : KernelState) (w b : ℕ → ℕ) : Type 0 where
-  pub threads : Rows w 0xB000 0xC0 (thread_fields s.current) s.threads Free
-  pub events : Rows w 0xBC00 0x1C event_fields s.events no_event
+  pub threads : ThreadsAt w s.current s.threads
+  pub events : EventsAt w s.events
   pub frames : FramesAt w s.frames
   pub chains : ChainsAt w s.chains
   pub heap : HeapAt w s.heap
-  pub files : Rows w 0xE800 4 file_fields s.files None
+  pub files : FilesAt w s.files
   pub line : LineAt b s.line
-  pub variables : Block w 0xEA00 (variables s)
+  pub variables : VariablesAt w s
