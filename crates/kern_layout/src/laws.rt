@@ -1,0 +1,88 @@
+//! The laws of the kernel's state in memory, as the kernel's code may use them: each function's contract is the law, for every state, and the function does nothing.
+ghost use Rattle.kern_layout.specs.StateLaws.{EachIsRead, EachStands, ReadsOne, StandsOne, StartsValid};
+ghost use Rattle.kern_layout.specs.OwnRange.{ThreadsOwn, EventsOwn, FramesOwn, ChainsOwn, HeapOwn, FilesOwn, LineOwn, VariablesOwn, FreeWords};
+ghost use Rattle.kern_layout.specs.StoreLaws.{ThreadWritten, ThreadStored, ThreadSwitched, EventWritten, EventStored, FileStored, VariableStored, FrameWritten, FrameContextStored, FrameTaskStored, FramePushed, FramesDropped, TaskStored, ElementTaken, LineTaken, ChainWritten, ChainLinked, ChainUnlinked, LineStored, LineAppended, LineEmptied, BlockStored, BlockUnlinked, BlockLinked};
+
+/// Each valid state is read from some memory, words read as one state only but for what they don't show, and the state at a program's begin is valid.
+///
+/// Its clauses hold of every state. It does nothing, as each function of this file.
+pub fn states()
+    ensures each_is_read { EachIsRead }
+    ensures each_stands { EachStands }
+    ensures reads_one { ReadsOne }
+    ensures stands_one { StandsOne }
+    ensures starts_valid { StartsValid }
+{}
+
+/// Each table is read from its own range alone.
+pub fn own_ranges()
+    ensures threads { ThreadsOwn }
+    ensures events { EventsOwn }
+    ensures frames { FramesOwn }
+    ensures chains { ChainsOwn }
+    ensures heap { HeapOwn }
+    ensures files { FilesOwn }
+    ensures line { LineOwn }
+    ensures variables { VariablesOwn }
+    ensures free_words { FreeWords }
+{}
+
+/// A store to a thread's control block is the state with that thread changed; with the running thread's number it is the state with another thread running.
+pub fn thread_stores()
+    ensures written { ThreadWritten }
+    ensures stored { ThreadStored }
+    ensures switched { ThreadSwitched }
+{}
+
+/// A store to an event's control block is the state with that event changed.
+pub fn event_stores()
+    ensures written { EventWritten }
+    ensures stored { EventStored }
+{}
+
+/// A store to a file's word is the state with that file closed or open.
+pub fn file_stores()
+    ensures { FileStored }
+{}
+
+/// A store to a variable is the state with that variable changed.
+pub fn variable_stores()
+    ensures { VariableStored }
+{}
+
+/// A store to a frame is the state with that frame changed; frames are pushed and dropped by their count.
+pub fn frame_stores()
+    ensures written { FrameWritten }
+    ensures context_stored { FrameContextStored }
+    ensures task_stored { FrameTaskStored }
+    ensures pushed { FramePushed }
+    ensures dropped { FramesDropped }
+{}
+
+/// A store among the tasks of a frame or of the work area is the list of tasks with that task changed, or without its first one.
+pub fn task_stores()
+    ensures stored { TaskStored }
+    ensures element_taken { ElementTaken }
+    ensures line_taken { LineTaken }
+{}
+
+/// A store to a chain is the state with that chain changed, with another head, or without its head.
+pub fn chain_stores()
+    ensures written { ChainWritten }
+    ensures linked { ChainLinked }
+    ensures unlinked { ChainUnlinked }
+{}
+
+/// A store to the line of gets is the state with that byte changed, with one byte more, or with no line.
+pub fn line_stores()
+    ensures stored { LineStored }
+    ensures appended { LineAppended }
+    ensures emptied { LineEmptied }
+{}
+
+/// A store to an entry of the heap's table is the state with that block changed; unlinking and linking an entry is the list without and with it.
+pub fn heap_stores()
+    ensures stored { BlockStored }
+    ensures unlinked { BlockUnlinked }
+    ensures linked { BlockLinked }
+{}
