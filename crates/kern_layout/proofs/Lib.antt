@@ -12,3 +12,4 @@ pub mod StartValid
 pub mod Stored
 pub mod HeapStored
 pub mod StandsMade
+pub mod MemoryStored

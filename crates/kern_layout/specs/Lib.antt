@@ -14,3 +14,4 @@ pub mod StateLaws
 pub mod OwnRange
 pub mod Stores
 pub mod StoreLaws
+pub mod MemoryLaws

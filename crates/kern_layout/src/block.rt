@@ -58,6 +58,7 @@ impl KernelBlock {
         requires within { at < 0x10000 }
         ensures { result ≡ slice_index self.now (at / 4) }
     {
-        self.words[(at / 4) as usize]
+        let place = (at / 4) as usize;
+        self.words[place]
     }
 }

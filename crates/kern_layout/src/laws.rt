@@ -1,6 +1,7 @@
 //! The laws of the kernel's state in memory, as the kernel's code may use them: each function's contract is the law, for every state, and the function does nothing.
 ghost use Rattle.kern_layout.specs.StateLaws.{EachIsRead, EachStands, ReadsOne, StandsOne, StartsValid};
 ghost use Rattle.kern_layout.specs.OwnRange.{ThreadsOwn, EventsOwn, FramesOwn, ChainsOwn, HeapOwn, FilesOwn, LineOwn, VariablesOwn, FreeWords};
+ghost use Rattle.kern_layout.specs.MemoryLaws.{WordStored, LineKept, ByteStored};
 ghost use Rattle.kern_layout.specs.StoreLaws.{ThreadWritten, ThreadStored, ThreadSwitched, EventWritten, EventStored, FileStored, VariableStored, FrameWritten, FrameContextStored, FrameTaskStored, FramePushed, FramesDropped, TaskStored, ElementTaken, LineTaken, ChainWritten, ChainLinked, ChainUnlinked, LineStored, LineAppended, LineEmptied, BlockStored, BlockUnlinked, BlockLinked};
 
 /// Each valid state is read from some memory, words read as one state only but for what they don't show, and the state at a program's begin is valid.
@@ -85,4 +86,11 @@ pub fn heap_stores()
     ensures stored { BlockStored }
     ensures unlinked { BlockUnlinked }
     ensures linked { BlockLinked }
+{}
+
+/// A store to memory is the store to its words at multiples of 4, and to the bytes of the line.
+pub fn memory_stores()
+    ensures word { WordStored }
+    ensures line { LineKept }
+    ensures byte { ByteStored }
 {}
