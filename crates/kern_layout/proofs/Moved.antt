@@ -1,14 +1,14 @@
 -- Frames that are pushed and dropped, elements of chains, the line, and another running thread.
-use Rattle.std.proofs.Common.{◌≡◌, ℕ, zero, suc, ◌+◌, ◌-◌, ◌*◌, ◌%◌, ◌<◌, ◌≤◌, Bool, true, false, cond, List, [], ◌∷◌, ◌++◌, length, refl, sym, ap, ◌∙◌, subst, arith, inl, inr, ⊎_elim, get_or, take, get_or-set_other, eq-eqb, ne_eqb}
-use Rattle.std.specs.Prelude.{◌⊎◌, nat_eq, Option, Some, None, slice_index_or, slice_index, slice_set, All}
+use Rattle.std.proofs.Common.{◌≡◌, ℕ, zero, suc, ◌+◌, ◌*◌, ◌%◌, ◌<◌, ◌≤◌, cond, List, [], ◌∷◌, ◌++◌, length, refl, sym, ap, ◌∙◌, subst, arith, inl, inr, ⊎_elim, take, get_or-set_other, eq-eqb, ne_eqb}
+use Rattle.std.specs.Prelude.{◌⊎◌, slice_index_or, slice_set}
 use Rattle.std.proofs.lemmas.List.{length-set, length-take-le, get_or-take, get_or-set_same}
 use Rattle.std.proofs.lemmas.Bool.{cases_lt, cases_eq}
-use Rattle.psx_base.specs.KernelState.{ThreadContext, Thread, Free, Used, Event, Frame, Heap, KernelState}
-use Rattle.kern_layout.specs.Fields.{Fields, Block, Rows, Stack}
-use Rattle.kern_layout.specs.Stores.{Same, Kept, SameBytes, with_thread}
+use Rattle.psx_base.specs.KernelState.{Thread, Free, Used, Frame, KernelState}
+use Rattle.kern_layout.specs.Fields.{Block, Stack}
+use Rattle.kern_layout.specs.Stores.{Same, SameBytes}
 use Rattle.kern_layout.specs.Contexts.{saved, thread_fields}
 use Rattle.kern_layout.specs.Tasks.{FrameAt}
-use Rattle.kern_layout.specs.Reads.{Reads, thread, no_frame, FramesAt, frame_at, thread_at, ChainAt, LineAt, variables, next_word}
+use Rattle.kern_layout.specs.Reads.{Reads, thread, no_frame, frame_at, thread_at, ChainAt, LineAt, variables, next_word}
 use Rattle.kern_layout.specs.Valid.{Valid}
 use Rattle.kern_layout.proofs.Blocks.{block_same, stack_same}
 use Rattle.kern_layout.proofs.Kept as kept

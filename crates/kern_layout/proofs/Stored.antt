@@ -1,14 +1,13 @@
 -- One store to a field is the state with that field changed.
-use Rattle.std.proofs.Common.{◌≡◌, ℕ, zero, suc, ◌+◌, ◌-◌, ◌*◌, ◌%◌, ◌<◌, ◌≤◌, Bool, true, false, cond, List, [], ◌∷◌, ◌++◌, length, refl, sym, ap, ◌∙◌, subst, arith, inl, inr, ⊎_elim, take, get_or-set_same}
-use Rattle.std.specs.Prelude.{◌⊎◌, nat_eq, nat_le, Option, Some, None, slice_index_or, slice_index, slice_set}
-use Rattle.psx_base.specs.KernelState.{ThreadContext, Thread, Free, Used, Event, Task, Element, Second, Line, Scan, Frame, Heap, KernelState}
-use Rattle.kern_layout.specs.Fields.{Fields, Block, Rows, Stack}
-use Rattle.kern_layout.specs.Stores.{Same, Kept, SameBytes, put, with_field, with_thread, with_event, with_frame, with_chain}
+use Rattle.std.proofs.Common.{◌≡◌, ℕ, suc, ◌+◌, ◌*◌, ◌%◌, ◌<◌, ◌≤◌, List, [], ◌∷◌, length, refl, sym, ap, ◌∙◌, subst, arith, take}
+use Rattle.std.specs.Prelude.{Option, slice_set}
+use Rattle.psx_base.specs.KernelState.{ThreadContext, Thread, Event, Task, Element, Line, KernelState}
+use Rattle.kern_layout.specs.Fields.{Block, Stack}
+use Rattle.kern_layout.specs.Stores.{Same, SameBytes, put, with_field, with_thread, with_event, with_frame, with_chain}
 use Rattle.kern_layout.specs.Contexts.{saved, thread_fields}
-use Rattle.kern_layout.specs.Tasks.{elements_of, lines_of, under_way_fields, count_fields, TasksAt, FrameAt}
-use Rattle.kern_layout.specs.HeapTable.{IsEntry, entry_fields, Linked, HeapAt, cell_at}
-use Rattle.kern_layout.specs.Reads.{Reads, thread, event, frame, chain, event_fields, no_event, file_fields, no_frame, thread_at, event_at, frame_at, file_at, chain_at, ChainAt, LineAt, variables, next_word}
-use Rattle.kern_layout.specs.Valid.{Valid, TasksFit}
+use Rattle.kern_layout.specs.Tasks.{elements_of, lines_of, under_way_fields, TasksAt}
+use Rattle.kern_layout.specs.Reads.{Reads, thread, event, frame, chain, event_fields, file_fields, no_frame, thread_at, event_at, frame_at, file_at, chain_at, ChainAt, variables}
+use Rattle.kern_layout.specs.Valid.{Valid}
 use Rattle.kern_layout.proofs.Blocks.{block_put, put_kept, put_here, put_other, stack_same, block_same}
 use Rattle.kern_layout.proofs.Kept as kept
 use Rattle.kern_layout.proofs.Written as written

@@ -1,5 +1,5 @@
 -- Contexts and threads in the kernel's blocks (PSX-SPX, Kernel (BIOS), Thread Functions: thread control blocks; R3000A manual, SR).
-use Rattle.std.specs.Prelude.{ℕ, Bool, List, [], ◌∷◌, nat_eq, if◌then◌else◌}
+use Rattle.std.specs.Prelude.{ℕ, Bool, [], ◌∷◌, nat_eq, if◌then◌else◌}
 use Rattle.psx_base.specs.KernelState.{ThreadContext, Thread, Free, Used}
 use Rattle.kern_layout.specs.Fields.{Fields}
 

@@ -1,5 +1,5 @@
 -- The ranges of the kernel's 64 KB, by physical addresses. That the gates and the control blocks stand there is after PSX-SPX, Kernel (BIOS); the layout is this project's own.
-use Rattle.std.specs.Prelude.{◌≡◌, ℕ, ◌<◌, ◌≤◌, Bool, false, List, [], ◌∷◌, AllPairs, All, ◌||◌}
+use Rattle.std.specs.Prelude.{◌≡◌, ℕ, ◌<◌, ◌≤◌, false, List, [], ◌∷◌, AllPairs, All, ◌||◌}
 use Rattle.psx_base.specs.Addresses.{user_main, scratchpad}
 use Rattle.kern_layout.specs.declared.ranges.Range.{Range}
 

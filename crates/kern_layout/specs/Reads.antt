@@ -1,6 +1,5 @@
 -- By which words the kernel's 64 KB are its state. `w` gives the word at a physical address, `b` the byte there.
 use Rattle.std.specs.Prelude.{◌≡◌, ℕ, suc, ◌+◌, ◌*◌, ◌<◌, List, [], ◌∷◌, length, slice_index, slice_index_or, Option, Some, None}
-use Rattle.psx_base.specs.Context.{Context}
 use Rattle.psx_base.specs.Registers.{no_registers}
 use Rattle.psx_base.specs.KernelState.{ThreadContext, Thread, Free, Event, Frame, KernelState}
 use Rattle.kern_layout.specs.Fields.{Fields, Block, Rows, Stack}

@@ -6,7 +6,7 @@ use Rattle.kern_layout.specs.Contexts.{saved, thread_fields}
 use Rattle.kern_layout.specs.Tasks.{elements_of, lines_of, under_way_fields, TasksAt, FrameAt}
 use Rattle.kern_layout.specs.HeapTable.{entry_fields, cell_at, LinksWritten}
 use Rattle.kern_layout.specs.Stores.{Same, Kept, SameBytes, put, with_field, with_thread, with_event, with_frame, with_chain}
-use Rattle.kern_layout.specs.Reads.{Reads, thread, event, frame, chain, event_fields, file_fields, thread_at, event_at, frame_at, file_at, chain_at, ChainAt, LineAt, variables}
+use Rattle.kern_layout.specs.Reads.{Reads, thread, event, frame, chain, event_fields, file_fields, thread_at, event_at, frame_at, file_at, chain_at, ChainAt, variables}
 use Rattle.kern_layout.specs.Valid.{Valid}
 
 -- where the first words and bytes read as the valid state s, the second read as t

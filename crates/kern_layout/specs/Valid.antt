@@ -3,7 +3,7 @@ use Rattle.std.specs.Prelude.{◌≡◌, ◌≢◌, ◌⊎◌, ℕ, ◌+◌, ◌
 use Rattle.psx_base.specs.Addresses.{user}
 use Rattle.psx_base.specs.FirstBad.{first_bad_of}
 use Rattle.psx_base.specs.Context.{Context, IsAtRest}
-use Rattle.psx_base.specs.KernelState.{ThreadContext, Thread, Free, Used, Event, Task, Element, Second, Line, Scan, Frame, Heap, KernelState}
+use Rattle.psx_base.specs.KernelState.{Thread, Free, Used, Event, Task, Element, Second, Line, Scan, Frame, Heap, KernelState}
 use Rattle.kern_layout.specs.Tasks.{InOrder, elements_of, lines_of}
 use Rattle.kern_layout.specs.Reads.{thread}
 
