@@ -11,7 +11,7 @@ use Rattle.kern_layout.specs.Contexts.{saved, saved_sr_of, thread_fields}
 use Rattle.kern_layout.specs.Tasks.{under_way, elements_of, lines_of, InOrder, under_way_fields, TasksAt, FrameAt}
 use Rattle.kern_layout.specs.Reads.{Reads, event_fields, no_event, file_fields, no_frame, no_context, ChainAt, next_word, frame_at, thread_at}
 use Rattle.kern_layout.specs.Valid.{Valid, ThreadRests, FileFits}
-use Rattle.kern_layout.specs.Hidden.{only_status, hidden}
+use Rattle.kern_layout.specs.Shown.{only_status, shown}
 use Rattle.kern_layout.proofs.Blocks.{lists_one, stack_one}
 use Rattle.kern_layout.proofs.HeapLinks.{linked_one}
 
@@ -183,7 +183,7 @@ threads_one w m n ts us e len a b lt h k =
         ∙ thread_one w (thread_at j) n j (slice_index_or ts j Free) (slice_index_or us j Free) (λ q. ne (q ∙ sym e)) (a j lj) (b j (omega (arith, len, lj))) (h' j lj) (k j (omega (arith, len, lj)))
         ∙ sym (get_or-set_other us n j (only_status (slice_index_or us n Free)) Free (λ q. ne (q ∙ sym e)))
 
-pub reads_one : (w b : ℕ → ℕ) (s t : KernelState) → Valid s → Valid t → Reads s w b → Reads t w b → hidden s ≡ hidden t
+pub reads_one : (w b : ℕ → ℕ) (s t : KernelState) → Valid s → Valid t → Reads s w b → Reads t w b → shown s ≡ shown t
 reads_one w b s t v u h k =
     let p = h.variables in
     let q = k.variables in

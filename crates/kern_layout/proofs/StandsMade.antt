@@ -82,7 +82,7 @@ stands_one p m rom s t v u h k =
     let context = sym h.context ∙ k.context in
     let on = sr_one s.running.interrupts t.running.interrupts (sym h.sr ∙ k.sr) in
     record {
-      shown = reads_one (word m) (byte m) s t v u h.reads k.reads;
+      words = reads_one (word m) (byte m) s t v u h.reads k.reads;
       running = λ i. record { context = context i; interrupts = on i };
       user = λ a q. sym (h.user a q) ∙ k.user a q;
     }
