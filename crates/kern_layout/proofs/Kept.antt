@@ -48,7 +48,7 @@ files_kept fs few w x s old = rows_same 0xE800 4 file_fields None file_aligned f
 
 -- ---- frames
 
-fit_under_way : (ts : List Task) → inside 0x98 0xA8 (under_way_fields ts) ≡ true
+pub fit_under_way : (ts : List Task) → inside 0x98 0xA8 (under_way_fields ts) ≡ true
 fit_under_way [] = refl
 fit_under_way (Element e ∷ ts) = refl
 fit_under_way (Second e ∷ ts) = refl

@@ -1,14 +1,14 @@
 -- What stores make of a state, table by table. `w` and `b` are the words and bytes before, `x` and `c` those after.
 use Rattle.std.specs.Prelude.{◌≡◌, ◌≢◌, ℕ, suc, ◌+◌, ◌*◌, ◌%◌, ◌<◌, ◌≤◌, Bool, List, [], ◌∷◌, ◌++◌, length, take, Option, slice_set}
 use Rattle.psx_base.specs.KernelState.{ThreadContext, Thread, Event, Task, Element, Line, Frame, KernelState}
-use Rattle.kern_layout.specs.Fields.{Block}
+use Rattle.kern_layout.specs.Fields.{Block, Stack}
 use Rattle.kern_layout.specs.Contexts.{saved, thread_fields}
 use Rattle.kern_layout.specs.Tasks.{elements_of, lines_of, under_way_fields, TasksAt, FrameAt}
 use Rattle.kern_layout.specs.HeapTable.{entry_fields, cell_at, LinksWritten}
 use Rattle.kern_layout.specs.Stores.{Same, Kept, SameBytes, put, with_field, with_thread, with_event, with_frame, with_chain}
 use Rattle.kern_layout.specs.Reads.{Reads, thread, event, frame, chain, event_fields, file_fields, thread_at, event_at, frame_at, file_at, chain_at, ChainAt, variables}
 use Rattle.kern_layout.specs.Valid.{Valid}
-use Rattle.kern_layout.specs.Numbers.{thread_size, event_size, frame_size, frame_kind, frame_element_count, frame_line_count, no_kind, work_area, chain_size, chain_elements, heap_entries, heap_entry_size, heap_block_size, next_at, frame_count_at, thread_count_at, line_length_at, heap_base_at, heap_first_at, heap_spare_at, threads_at, chains_at, line_at, variables_at, variables_size}
+use Rattle.kern_layout.specs.Numbers.{saved_register, thread_size, event_size, frame_size, frame_kind, frame_element_count, frame_line_count, no_kind, work_area, chain_size, chain_elements, heap_entries, heap_entry_size, heap_block_size, next_at, frame_count_at, thread_count_at, line_length_at, heap_base_at, heap_first_at, heap_spare_at, threads_at, chains_at, line_at, variables_at, variables_size}
 
 -- where the first words and bytes read as the valid state s, the second read as t
 abbrev pub Turns : (s t : KernelState) → (w x b c : ℕ → ℕ) → Type 0
@@ -134,3 +134,30 @@ BlockUnlinked = (s : KernelState) (w x b c : ℕ → ℕ) (xs ys : List (ℕ × 
 abbrev pub BlockLinked : Type 0
 BlockLinked = (s : KernelState) (w x b c : ℕ → ℕ) (xs ys : List (ℕ × Bool)) (z : ℕ × Bool) → s.heap.blocks ≡ xs ++ ys → length s.heap.blocks < heap_entries → let d = cell_at w heap_first_at (length xs) in let e = w heap_spare_at in x heap_spare_at ≡ w e → x d ≡ e → x e ≡ w d → Block x e (entry_fields z) → LinksWritten w x d e
     → TurnsWords s record s { heap = record s.heap { blocks = xs ++ z ∷ ys } } w x b c
+
+-- ---- copies
+
+-- the words at multiples of 4 of a block, from one offset to another, are copied to another block
+abbrev pub Copied : (w x : ℕ → ℕ) (at to low high : ℕ) → Type 0
+Copied w x at to low high = (o : ℕ) → o % 4 ≡ 0 → low ≤ o → o < high → x (to + o) ≡ w (at + o)
+
+-- a saved context is copied: from the work area to a thread's block, say
+abbrev pub ContextCopied : Type 0
+ContextCopied = (w x : ℕ → ℕ) (at to : ℕ) (t : ThreadContext) → Copied w x at to (saved_register 1) frame_kind → Block w at (saved t) → Block x to (saved t)
+
+-- tasks are copied, and a frame: from the work area to the place behind the last frame, say
+abbrev pub TasksCopied : Type 0
+TasksCopied = (w x : ℕ → ℕ) (at to : ℕ) (ts : List Task) → TasksHaveRoom ts → Copied w x at to frame_kind frame_size → TasksAt w at ts → TasksAt x to ts
+
+abbrev pub FrameCopied : Type 0
+FrameCopied = (w x : ℕ → ℕ) (at to : ℕ) (f : Frame) → TasksHaveRoom f.tasks → Copied w x at to (saved_register 1) frame_size → FrameAt w at f → FrameAt x to f
+
+-- ---- lists of words, the first one last
+
+-- a number is stored behind the others, and is the first
+abbrev pub StackMore : Type 0
+StackMore = (w x : ℕ → ℕ) (at e : ℕ) (es : List ℕ) → at % 4 ≡ 0 → Same at (at + 4 * length es) w x → x (at + 4 * length es) ≡ e → Stack w at es → Stack x at (e ∷ es)
+
+-- a list that stands behind another goes before it
+abbrev pub StackJoined : Type 0
+StackJoined = (w : ℕ → ℕ) (at : ℕ) (xs ys : List ℕ) → Stack w at xs → Stack w (at + 4 * length xs) ys → Stack w at (ys ++ xs)

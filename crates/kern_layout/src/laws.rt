@@ -2,7 +2,7 @@
 ghost use Rattle.kern_layout.specs.StateLaws.{EachIsRead, EachStands, ReadsOne, StandsOne, StartsValid};
 ghost use Rattle.kern_layout.specs.OwnRange.{ThreadsOwn, EventsOwn, FramesOwn, ChainsOwn, HeapOwn, FilesOwn, LineOwn, VariablesOwn, FreeWords};
 ghost use Rattle.kern_layout.specs.MemoryLaws.{WordStored, LineKept, ByteStored};
-ghost use Rattle.kern_layout.specs.StoreLaws.{ThreadWritten, ThreadStored, ThreadSwitched, EventWritten, EventStored, FileStored, VariableStored, FrameWritten, FrameContextStored, FrameTaskStored, FramePushed, FramesDropped, TaskStored, ElementTaken, LineTaken, ChainWritten, ChainLinked, ChainUnlinked, LineStored, LineAppended, LineEmptied, BlockStored, BlockUnlinked, BlockLinked};
+ghost use Rattle.kern_layout.specs.StoreLaws.{ThreadWritten, ThreadStored, ThreadSwitched, EventWritten, EventStored, FileStored, VariableStored, FrameWritten, FrameContextStored, FrameTaskStored, FramePushed, FramesDropped, TaskStored, ElementTaken, LineTaken, ChainWritten, ChainLinked, ChainUnlinked, LineStored, LineAppended, LineEmptied, BlockStored, BlockUnlinked, BlockLinked, ContextCopied, TasksCopied, FrameCopied, StackMore, StackJoined};
 
 /// Each valid state is read from some memory, words read as one state only but for what they don't show, and the state at a program's begin is valid.
 ///
@@ -86,6 +86,19 @@ pub fn heap_stores()
     ensures stored { BlockStored }
     ensures unlinked { BlockUnlinked }
     ensures linked { BlockLinked }
+{}
+
+/// A list of words has one number more by one store, and two lists that stand one behind the other are one.
+pub fn stacks()
+    ensures more { StackMore }
+    ensures joined { StackJoined }
+{}
+
+/// A context, tasks or a frame copied word by word to another place are there too.
+pub fn copies()
+    ensures context { ContextCopied }
+    ensures tasks { TasksCopied }
+    ensures frame { FrameCopied }
 {}
 
 /// A store to memory is the store to its words at multiples of 4, and to the bytes of the line.
