@@ -1,14 +1,14 @@
 -- What stores make of a state, table by table. `w` and `b` are the words and bytes before, `x` and `c` those after.
 use Rattle.std.specs.Prelude.{◌≡◌, ◌≢◌, ℕ, suc, ◌+◌, ◌*◌, ◌%◌, ◌<◌, ◌≤◌, Bool, List, [], ◌∷◌, ◌++◌, length, take, Option, slice_set}
-use Rattle.psx_base.specs.KernelState.{ThreadContext, Thread, Event, Task, Element, Line, Frame, KernelState}
+use Rattle.psx_base.specs.KernelState.{ThreadContext, Thread, Free, Event, Task, Element, Line, Frame, KernelState}
 use Rattle.kern_layout.specs.Fields.{Block, Stack}
 use Rattle.kern_layout.specs.Contexts.{saved, thread_fields}
 use Rattle.kern_layout.specs.Tasks.{elements_of, lines_of, under_way_fields, TasksAt, FrameAt}
-use Rattle.kern_layout.specs.HeapTable.{entry_fields, cell_at, LinksWritten}
+use Rattle.kern_layout.specs.HeapTable.{HeapAt, entry_fields, cell_at, LinksWritten}
 use Rattle.kern_layout.specs.Stores.{Same, Kept, SameBytes, put, with_field, with_thread, with_event, with_frame, with_chain}
 use Rattle.kern_layout.specs.Reads.{Reads, thread, event, frame, chain, event_fields, file_fields, thread_at, event_at, frame_at, file_at, chain_at, ChainAt, variables}
 use Rattle.kern_layout.specs.Valid.{Valid}
-use Rattle.kern_layout.specs.Numbers.{saved_register, thread_size, event_size, frame_size, frame_kind, frame_element_count, frame_line_count, no_kind, work_area, chain_size, chain_elements, heap_entries, heap_entry_size, heap_block_size, next_at, frame_count_at, thread_count_at, line_length_at, heap_base_at, heap_first_at, heap_spare_at, threads_at, chains_at, line_at, variables_at, variables_size}
+use Rattle.kern_layout.specs.Numbers.{free_thread, event_status, saved_register, thread_size, event_size, frame_size, frame_kind, frame_element_count, frame_line_count, no_kind, work_area, chain_size, chain_elements, heap_entries, heap_entry_size, heap_block_size, next_at, frame_count_at, thread_count_at, line_length_at, heap_base_at, heap_first_at, heap_spare_at, threads_at, chains_at, line_at, variables_at, variables_size, heap_table_at, files_at}
 
 -- where the first words and bytes read as the valid state s, the second read as t
 abbrev pub Turns : (s t : KernelState) → (w x b c : ℕ → ℕ) → Type 0
@@ -28,6 +28,10 @@ ThreadWritten = (s : KernelState) (w x b c : ℕ → ℕ) (n : ℕ) (t : Thread)
 abbrev pub ThreadStored : Type 0
 ThreadStored = (s : KernelState) (w b c : ℕ → ℕ) (n o v : ℕ) (t : Thread) → n < length s.threads → o < thread_size → with_field (thread_fields s.current n (thread s n)) o v ≡ thread_fields s.current n t → TurnsWords s (with_thread s n t) w (put w (thread_at n + o) v) b c
 
+-- a thread's status becomes free: the words of its context aren't looked at any more
+abbrev pub ThreadFreed : Type 0
+ThreadFreed = (s : KernelState) (w b c : ℕ → ℕ) (n : ℕ) → n < length s.threads → TurnsWords s (with_thread s n Free) w (put w (thread_at n) free_thread) b c
+
 -- the running thread's block is written with all fields of t, and n, as the running thread's number
 abbrev pub ThreadSwitched : Type 0
 ThreadSwitched = (s : KernelState) (w x b c : ℕ → ℕ) (n : ℕ) (t : Thread) → Same threads_at (thread_at s.current) w x → Same (thread_at s.current + thread_size) line_at w x → Same next_at work_area w x → Block x (thread_at s.current) (thread_fields n s.current t) → x variables_at ≡ n → TurnsWords s record s { threads = slice_set s.threads s.current t; current = n } w x b c
@@ -39,6 +43,10 @@ EventWritten = (s : KernelState) (w x b c : ℕ → ℕ) (i : ℕ) (e : Event) �
 
 abbrev pub EventStored : Type 0
 EventStored = (s : KernelState) (w b c : ℕ → ℕ) (i o v : ℕ) (e : Event) → i < length s.events → o < event_size → with_field (event_fields i (event s i)) o v ≡ event_fields i e → TurnsWords s (with_event s i e) w (put w (event_at i + o) v) b c
+
+-- an event's status is stored
+abbrev pub EventStatusStored : Type 0
+EventStatusStored = (s : KernelState) (w b c : ℕ → ℕ) (i v : ℕ) → i < length s.events → TurnsWords s (with_event s i record (event s i) { status = v }) w (put w (event_at i + event_status) v) b c
 
 -- ---- files
 
@@ -84,6 +92,10 @@ pub record TasksHaveRoom (ts : List Task) : Type 0 where
 abbrev pub TaskStored : Type 0
 TaskStored = (w : ℕ → ℕ) (at o v : ℕ) (ts us : List Task) → at % 4 ≡ 0 → TasksHaveRoom ts → frame_kind ≤ o → o < frame_element_count → with_field (under_way_fields ts) o v ≡ under_way_fields us → elements_of us ≡ elements_of ts → lines_of us ≡ lines_of ts → TasksAt w at ts → TasksAt (put w (at + o) v) at us
 
+-- the task under way is done: the kind becomes that of none
+abbrev pub TaskDone : Type 0
+TaskDone = (w : ℕ → ℕ) (at : ℕ) (ts us : List Task) → at % 4 ≡ 0 → TasksHaveRoom ts → under_way_fields us ≡ (frame_kind, no_kind) ∷ [] → elements_of us ≡ elements_of ts → lines_of us ≡ lines_of ts → TasksAt w at ts → TasksAt (put w (at + frame_kind) no_kind) at us
+
 -- the first element or line is taken, where no task is under way: one less is counted
 abbrev pub ElementTaken : Type 0
 ElementTaken = (w : ℕ → ℕ) (at e : ℕ) (ts : List Task) → at % 4 ≡ 0 → TasksHaveRoom ts → under_way_fields ts ≡ (frame_kind, no_kind) ∷ [] → TasksAt w at (Element e ∷ ts) → TasksAt (put w (at + frame_element_count) (length (elements_of ts))) at ts
@@ -119,6 +131,10 @@ abbrev pub LineEmptied : Type 0
 LineEmptied = (s : KernelState) (w b c : ℕ → ℕ) → Turns s record s { line = [] } w (put w line_length_at 0) b c
 
 -- ---- the heap: `xs` are the blocks before the one that is meant, `ys` those behind it
+
+-- the table and its two variables are written, and have these blocks
+abbrev pub HeapWritten : Type 0
+HeapWritten = (s : KernelState) (w x b c : ℕ → ℕ) (blocks : List (ℕ × Bool)) → Same threads_at heap_table_at w x → Same files_at (variables_at + variables_size) w x → HeapAt x record s.heap { blocks = blocks } → TurnsWords s record s { heap = record s.heap { blocks = blocks } } w x b c
 
 -- v is stored to the size or the use of a block y, which makes it z
 abbrev pub BlockStored : Type 0
