@@ -1,0 +1,5 @@
+pub mod Tree
+pub mod Reading
+pub mod Well
+pub mod Spaced
+pub mod Lowered

@@ -1,0 +1,8 @@
+//! Listings: machine code that is written as a flat list of instructions, choices, loops, calls and jumps, and lowered to words.
+//! A listing is well where it spells a tree (`specs/Tree.antt`, `Well.antt`), and its words are those of `specs/Lowered.antt`.
+//! The routines of the kernel are listings, and the image holds their words.
+#![tactic(auto)]
+
+pub mod node;
+
+pub use node::{Node, Test};
