@@ -3,3 +3,8 @@ pub mod Reading
 pub mod Well
 pub mod Spaced
 pub mod Lowered
+pub mod Run
+pub mod Meets
+pub mod Runs
+pub mod Plain
+pub mod Reaches

@@ -1,0 +1,9 @@
+pub mod Delay
+pub mod Rules
+pub mod Step
+pub mod Kept
+pub mod Room
+pub mod Branches
+pub mod Moves
+pub mod Lower
+pub mod Exact
