@@ -7,3 +7,7 @@ pub mod Branches
 pub mod Moves
 pub mod Lower
 pub mod Exact
+pub mod Registers
+pub mod Log
+pub mod Sym
+pub mod Kit

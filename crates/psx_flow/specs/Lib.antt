@@ -8,3 +8,4 @@ pub mod Meets
 pub mod Runs
 pub mod Plain
 pub mod Reaches
+pub mod Kernel
