@@ -11,3 +11,6 @@ pub mod Registers
 pub mod Log
 pub mod Sym
 pub mod Kit
+pub mod Users
+pub mod Accesses
+pub mod Serves

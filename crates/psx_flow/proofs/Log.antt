@@ -181,6 +181,13 @@ user_byte_mono m (KernelByte b v ∷ w) p j k f h = user_byte_mono m w p j k f h
 user_byte_mono m (UserWord b v ∷ w) p j k f h = f _ h
 user_byte_mono m (UserByte b v ∷ w) p j k f h = f _ h
 
+pub user_word_mono : (m : Memory) (w : List Entry) (p : ℕ) (j k : ℕ → Type 0) → ((x : ℕ) → j x → k x) → user_word_then m w p j → user_word_then m w p k
+user_word_mono m [] p j k f h = f _ h
+user_word_mono m (KernelWord b v ∷ w) p j k f h = user_word_mono m w p j k f h
+user_word_mono m (KernelByte b v ∷ w) p j k f h = user_word_mono m w p j k f h
+user_word_mono m (UserWord b v ∷ w) p j k f h = f _ h
+user_word_mono m (UserByte b v ∷ w) p j k f h = f _ h
+
 -- ---- what a sort tells
 
 by_code : (c k u p : Bool) → sort_by c k u p ≡ Code → c ≡ true

@@ -192,6 +192,9 @@ user_writable p h = ⊎_elim (λ e. writable_main p e.1) (λ e. writable_pad p e
 pub user_above : (p : ℕ) → sort p ≡ User → 0x10000 ≤ p
 user_above p h = ⊎_elim (λ e. e.0) (λ e. omega (arith, e)) (user_in p h)
 
+pub word_above : (a : ℕ) → word_sort a ≡ User → 0x10000 ≤ place a
+word_above a e = user_above (place a) (aligned_of a User e (λ x. cc)).1
+
 port_writable : (p : ℕ) → (0x1F801000 ≤ p) × (p < 0x1F803000) → is_writable p ≡ false
 port_writable p h = grind arith
 

@@ -9,3 +9,4 @@ pub mod Runs
 pub mod Plain
 pub mod Reaches
 pub mod Kernel
+pub mod Tested

@@ -3,6 +3,9 @@
 //! The routines of the kernel are listings, and the image holds their words.
 #![tactic(auto)]
 
+pub mod kinds;
+pub mod listings;
 pub mod node;
 
+pub use kinds::Tested;
 pub use node::{Node, Test};
