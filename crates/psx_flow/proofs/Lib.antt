@@ -1,3 +1,8 @@
+pub mod TreeRead
+pub mod BodySteps
+pub mod Stacks
+pub mod Sizes
+pub mod Emits
 pub mod Delay
 pub mod Rules
 pub mod Step

@@ -1,8 +1,10 @@
 pub mod Tree
 pub mod Reading
 pub mod Well
+pub mod Nodes
 pub mod Spaced
 pub mod Lowered
+pub mod Emit
 pub mod Run
 pub mod Meets
 pub mod Runs

@@ -3,9 +3,22 @@
 //! The routines of the kernel are listings, and the image holds their words.
 #![tactic(auto)]
 
+mod emit;
+mod fit;
+mod load;
+mod lowering;
+mod nesting;
 pub mod kinds;
 pub mod listings;
 pub mod node;
+mod sizing;
+mod spacing;
+#[cfg(test)]
+mod tests;
 
+pub use lowering::lower;
+pub use nesting::well;
 pub use kinds::Tested;
 pub use node::{Node, Test};
+pub use sizing::size_of;
+pub use spacing::spaced;
