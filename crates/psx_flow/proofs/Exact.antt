@@ -14,7 +14,7 @@ use Rattle.psx_flow.specs.Plain.{board}
 use Rattle.psx_flow.proofs.Rules.{Fair, fair, meets_mono}
 use Rattle.psx_flow.proofs.Room.{tree_spaced}
 use Rattle.psx_flow.proofs.Moves.{From, reach_here, reach_then}
-use Rattle.psx_flow.proofs.Lower.{Ends, run_tree}
+use Rattle.psx_flow.proofs.Compiled.{Ends, run_tree}
 
 -- ---- calls
 

@@ -10,7 +10,7 @@ pub mod Kept
 pub mod Room
 pub mod Branches
 pub mod Moves
-pub mod Lower
+pub mod Compiled
 pub mod Exact
 pub mod Registers
 pub mod Log
