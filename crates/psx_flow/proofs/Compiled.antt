@@ -19,9 +19,9 @@ use Rattle.psx_flow.specs.Lowered.{opposite, always, nop, branch, target_of, cod
 use Rattle.psx_flow.specs.Run.{Run, state_at, done}
 use Rattle.psx_flow.specs.Meets.{Holds, passing, linking, Goal, Calls, Turns, Meets, calls}
 use Rattle.psx_flow.specs.Plain.{Board, board}
-use Rattle.psx_flow.specs.Reaches.{Lies, Stands, Keeps, Reaches}
+use Rattle.psx_flow.specs.Reaches.{Keeps, Reaches}
 use Rattle.psx_flow.proofs.Rules.{decided}
-use Rattle.psx_flow.proofs.Step.{both, standing}
+use Rattle.psx_flow.proofs.Step.{LiesAs, StandsAs, both, standing}
 use Rattle.psx_flow.proofs.Kept.{done_keeps}
 use Rattle.psx_flow.proofs.Room.{room, spaced, clear, begins, none_pending, clear_after}
 use Rattle.psx_flow.proofs.Branches.{no_wrap, jumps_to, in_slot, opposite_fits}
@@ -112,7 +112,7 @@ module _ (kept : ℕ → Bool) (bus : ℕ → Bus) (few : (n : ℕ) → (bus n).
     linking_keeps s back k = record { bytes = k.bytes; masked = k.masked }
 
     pub run_tree : (T : Tree) (at : ℕ) (K : Goal) (G : ℕ → Goal) (c : ℕ) (s : Run) (raw : Registers) (p : Option (ℕ × ℕ)) → settled raw p ≡ s.regs → clear p T ≡ true
-        → fits T ≡ true → reaches T at ≡ true → spaced T ≡ true → Keeps kept first s → Stands kept first at (code T at) → Meets kept C T at K G s
+        → fits T ≡ true → reaches T at ≡ true → spaced T ≡ true → Keeps kept first s → StandsAs kept first at (code T at) → Meets kept C T at K G s
         → Reaches kept bus first (standing (pending_at s raw p at) s.seen c) c s.passed (Ends (at + 4 * size T) K G)
     run_tree Stop at K G c s raw p e clr f w sp ks st h =
         let end : at ≡ at + 4 * 0 = omega arith in
@@ -132,7 +132,7 @@ module _ (kept : ℕ → Bool) (bus : ℕ → Bus) (few : (n : ℕ) → (bus n).
         let w0 = both (in_reach at end) (reaches a (at + 8) && reaches r end) w in let w1 = both (reaches a (at + 8)) (reaches r end) w0.1 in
         let sq = both (spaced a) (spaced r) sp in
         let e8 : at + 4 + 4 ≡ at + 8 = omega arith in
-        let body = subst (λ n. Stands kept first n (code a (at + 8) ++ code r end)) e8 st.1.1 in
+        let body = subst (λ n. StandsAs kept first n (code a (at + 8) ++ code r end)) e8 st.1.1 in
         let to : at + 8 + 4 * size a ≡ end = omega arith in
         let fin : end + 4 * size r ≡ at + 4 * (2 + size a + size r) = omega arith in
         let rest : (d : ℕ) (m : Run) → Keeps kept first m → Meets kept C r end K G m → From kept bus first d m end (Ends (at + 4 * (2 + size a + size r)) K G) =
@@ -155,11 +155,11 @@ module _ (kept : ℕ → Bool) (bus : ℕ → Bus) (few : (n : ℕ) → (bus n).
         let s0 = both (spaced a) (spaced b && spaced r) sp in let s1 = both (spaced b) (spaced r) s0.1 in
         let e8 : at + 4 + 4 ≡ at + 8 = omega arith in
         let tail : List Ins = branch always over end ∷ nop ∷ (code b other ++ code r end) in
-        let body = subst (λ n. Stands kept first n (code a (at + 8) ++ tail)) e8 st.1.1 in
+        let body = subst (λ n. StandsAs kept first n (code a (at + 8) ++ tail)) e8 st.1.1 in
         let to_over : at + 8 + 4 * size a ≡ over = omega arith in
         let jump = stands_at kept first (at + 8) over a tail to_over body in
         let eb : over + 4 + 4 ≡ other = omega arith in
-        let body_b = subst (λ n. Stands kept first n (code b other ++ code r end)) eb jump.1.1 in
+        let body_b = subst (λ n. StandsAs kept first n (code b other ++ code r end)) eb jump.1.1 in
         let to : other + 4 * size b ≡ end = omega arith in
         let fin : end + 4 * size r ≡ at + 4 * (4 + size a + size b + size r) = omega arith in
         let rest : (d : ℕ) (m : Run) → Keeps kept first m → Meets kept C r end K G m → From kept bus first d m end (Ends (at + 4 * (4 + size a + size b + size r)) K G) =
@@ -182,7 +182,7 @@ module _ (kept : ℕ → Bool) (bus : ℕ → Bus) (few : (n : ℕ) → (bus n).
         let sq = both (spaced a) (spaced r) sp in
         let e8 : at + 4 + 4 ≡ at + 8 = omega arith in
         let tail : List Ins = branch always back at ∷ nop ∷ code r end in
-        let body = subst (λ n. Stands kept first n (code a (at + 8) ++ tail)) e8 st.1.1 in
+        let body = subst (λ n. StandsAs kept first n (code a (at + 8) ++ tail)) e8 st.1.1 in
         let to : at + 8 + 4 * size a ≡ back = omega arith in
         let turn = stands_at kept first (at + 8) back a tail to body in
         let er : back + 4 + 4 ≡ end = omega arith in
@@ -191,7 +191,7 @@ module _ (kept : ℕ → Bool) (bus : ℕ → Bus) (few : (n : ℕ) → (bus n).
         at_rest kept bus first s raw p at c _ e (none_pending p (Loop t a r) clr refl)
         (turns_run h.0 0 c t a at end (board s at c) _ G (Meets kept C r end K G) s
         (λ L d m km k. ends_at _ _ L G _ d m.passed to (run_tree a (at + 8) L G d m m.regs None refl refl f1.0 w1.0 sq.0 km (stands_front kept first (at + 8) (code a (at + 8)) tail body) k))
-        (λ d m km k. ends_at _ _ K G _ d m.passed fin (run_tree r end K G d m m.regs None refl refl f1.1 w1.1 sq.1 km (subst (λ n. Stands kept first n (code r end)) er turn.1.1) k))
+        (λ d m km k. ends_at _ _ K G _ d m.passed fin (run_tree r end K G d m m.regs None refl refl f1.1 w1.1 sq.1 km (subst (λ n. StandsAs kept first n (code r end)) er turn.1.1) k))
         (λ m b g. inr g)
         (λ d m km y. passed_by kept bus first d t m at end km st.0 st.1.0 f0.0 y)
         (λ d m km y. taken kept bus first d (opposite t) m at end km st.0 st.1.0 (opposite_fits t f0.0) near.0 (even_16 at (size a) st.0.aligned) y)
@@ -208,7 +208,7 @@ module _ (kept : ℕ → Bool) (bus : ℕ → Bus) (few : (n : ℕ) → (bus n).
         (two kept bus first c (JAL (target_of a)) s into at a ks (linking_keeps s (at + 8) ks) st.0 st.1.0 (target_fits a) refl refl
         (ap (λ x. in_slot (linking s x) ((at + 4) % 2 ^ 32) ((at + 4) % 2 ^ 32 / 2 ^ 28 * 2 ^ 28 + a / 4 % 2 ^ 26 * 4)) link ∙ ap (in_slot into ((at + 4) % 2 ^ 32)) (jumps_to at a w0.0)) refl) refl
         (reach_then kept bus first _ (c + 2) (suc s.passed) _ _ (known a _ _ _ into (linking_keeps s (at + 8) ks) h) (λ d m b km z.
-        subst (λ n. From kept bus first d m n (Ends (at + 4 * (2 + size r)) K G)) (sym z.0) (ends_at _ _ K G _ d m.passed fin (run_tree r (at + 8) K G d m m.regs None refl refl f w0.1 sp km (subst (λ n. Stands kept first n (code r (at + 8))) e8 st.1.1) z.1)))))
+        subst (λ n. From kept bus first d m n (Ends (at + 4 * (2 + size r)) K G)) (sym z.0) (ends_at _ _ K G _ d m.passed fin (run_tree r (at + 8) K G d m m.regs None refl refl f w0.1 sp km (subst (λ n. StandsAs kept first n (code r (at + 8))) e8 st.1.1) z.1)))))
     run_tree (Go a r) at K G c s raw p e clr f w sp ks st h =
         let w0 = both (in_region at a) (reaches r (at + 8)) w in
         at_rest kept bus first s raw p at c _ e (none_pending p (Go a r) clr refl)

@@ -19,3 +19,4 @@ pub mod Kit
 pub mod Users
 pub mod Accesses
 pub mod Serves
+pub mod Settling

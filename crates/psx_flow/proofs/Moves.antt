@@ -23,24 +23,24 @@ use Rattle.psx_flow.specs.Lowered.{opposite, nop, always, branch_by, branch, dis
 use Rattle.psx_flow.specs.Run.{Run, Access, accessed, state_at, done}
 use Rattle.psx_flow.specs.Meets.{Holds}
 use Rattle.psx_flow.specs.Plain.{Board, plain_step, on, steps, board}
-use Rattle.psx_flow.specs.Reaches.{Lies, Stands, Keeps, Reaches}
+use Rattle.psx_flow.specs.Reaches.{Keeps, Reaches}
 use Rattle.psx_flow.proofs.Delay.{waiting, settled_one, delayed, delayed_trap, delayed_access, neither}
-use Rattle.psx_flow.proofs.Step.{both, fetched, standing, step_is}
+use Rattle.psx_flow.proofs.Step.{LiesAs, StandsAs, both, fetched, standing, step_is}
 use Rattle.psx_flow.proofs.Room.{clear}
 use Rattle.psx_flow.proofs.Branches.{no_wrap, mapped_below, goes_to, op_after, test, passes, fails, in_slot, branch_after, branch_trap, branch_gate, branch_seen, branch_fits, opposite_fits}
 
 -- ---- where words stand
 
 module _ (kept : ℕ → Bool) (first : Memory) where
-  pub stands_front : (at : ℕ) (a b : List Ins) → Stands kept first at (a ++ b) → Stands kept first at a
+  pub stands_front : (at : ℕ) (a b : List Ins) → StandsAs kept first at (a ++ b) → StandsAs kept first at a
   stands_front at [] b h = tt
   stands_front at (i ∷ a) b h = (h.0, stands_front (at + 4) a b h.1)
 
-  pub stands_behind : (at : ℕ) (a b : List Ins) → Stands kept first at (a ++ b) → Stands kept first (at + 4 * length a) b
-  stands_behind at [] b h = let e : at ≡ at + 4 * length {A = Ins} [] = omega arith in subst (λ n. Stands kept first n b) e h
+  pub stands_behind : (at : ℕ) (a b : List Ins) → StandsAs kept first at (a ++ b) → StandsAs kept first (at + 4 * length a) b
+  stands_behind at [] b h = let e : at ≡ at + 4 * length {A = Ins} [] = omega arith in subst (λ n. StandsAs kept first n b) e h
   stands_behind at (i ∷ a) b h =
       let e : at + 4 + 4 * length a ≡ at + 4 * length (i ∷ a) = omega arith in
-      subst (λ n. Stands kept first n b) e (stands_behind (at + 4) a b h.1)
+      subst (λ n. StandsAs kept first n b) e (stands_behind (at + 4) a b h.1)
 
 pub size_is : (T : Tree) (at : ℕ) → length (code T at) ≡ size T
 size_is Stop at = refl
@@ -60,10 +60,10 @@ size_is (Go a r) at = omega (arith, size_is r (at + 8))
 size_is (GoTo n r) at = omega (arith, size_is r (at + 8))
 
 -- the words behind a part
-pub stands_at : (kept : ℕ → Bool) (first : Memory) (at to : ℕ) (a : Tree) (b : List Ins) → at + 4 * size a ≡ to → Stands kept first at (code a at ++ b) → Stands kept first to b
+pub stands_at : (kept : ℕ → Bool) (first : Memory) (at to : ℕ) (a : Tree) (b : List Ins) → at + 4 * size a ≡ to → StandsAs kept first at (code a at ++ b) → StandsAs kept first to b
 stands_at kept first at to a b e h =
     let f : at + 4 * length (code a at) ≡ to = omega (arith, size_is a at, e) in
-    subst (λ n. Stands kept first n b) f (stands_behind kept first at (code a at) b h)
+    subst (λ n. StandsAs kept first n b) f (stands_behind kept first at (code a at) b h)
 
 -- ---- steps
 
@@ -161,7 +161,7 @@ module _ (kept : ℕ → Bool) (bus : ℕ → Bus) (first : Memory) where
   next_clock y q c = let e : suc c ≡ c + 1 = omega arith in ap (λ t. Some (standing y q t)) e
 
   -- an Op
-  pub one : (c : ℕ) (i : Ins) (s : Run) (raw : Registers) (p : Option (ℕ × ℕ)) (at : ℕ) (T : Tree) → settled raw p ≡ s.regs → clear p (Do i T) ≡ true → Keeps kept first s → Lies kept first at i → is_op i ≡ true → trap_of i (state_at s at).context ≡ None
+  pub one : (c : ℕ) (i : Ins) (s : Run) (raw : Registers) (p : Option (ℕ × ℕ)) (at : ℕ) (T : Tree) → settled raw p ≡ s.regs → clear p (Do i T) ≡ true → Keeps kept first s → LiesAs kept first at i → is_op i ≡ true → trap_of i (state_at s at).context ≡ None
       → Moves 1 (standing (pending_at s raw p at) s.seen c)
         (let y = effect i (state_at s at) (bus c) in standing (pending_at (done i s at (bus c)) y.context.regs y.context.pending (at + 4)) (done i s at (bus c)).seen (c + 1))
   one c i s raw p at T e clr k l w none =
@@ -178,7 +178,7 @@ module _ (kept : ℕ → Bool) (bus : ℕ → Bus) (first : Memory) where
       unsaid false h = refl
 
   -- a branch or a jump with its slot
-  pub two : (c : ℕ) (i : Ins) (s e : Run) (at to : ℕ) → Keeps kept first s → Keeps kept first e → Lies kept first at i → Lies kept first (at + 4) nop → fits_fields i ≡ true → is_gate i ≡ false → trap_of i (state_at s at).context ≡ None
+  pub two : (c : ℕ) (i : Ins) (s e : Run) (at to : ℕ) → Keeps kept first s → Keeps kept first e → LiesAs kept first at i → LiesAs kept first (at + 4) nop → fits_fields i ≡ true → is_gate i ≡ false → trap_of i (state_at s at).context ≡ None
       → effect i (state_at s at) (bus c) ≡ in_slot e ((at + 4) % 2 ^ 32) to → accessed i (state_at s at) (bus c) s.seen ≡ e.seen → Moves 2 (board s at c) (board e to (c + 2))
   two c i s e at to ks ke l n fit gate none goes same =
       let f : suc (suc c) ≡ c + 2 = omega arith in
@@ -193,7 +193,7 @@ module _ (kept : ℕ → Bool) (bus : ℕ → Bus) (first : Memory) where
   word_field : (x : ℕ) → x % 2 ^ 16 < 2 ^ 16
   word_field x = omega arith
 
-  pub taken : (c : ℕ) (t : Test) (s : Run) (at to : ℕ) → Keeps kept first s → Lies kept first at (branch t at to) → Lies kept first (at + 4) nop → test_fits t ≡ true → in_reach at to ≡ true → to % 4 ≡ 0 → Holds t s.regs
+  pub taken : (c : ℕ) (t : Test) (s : Run) (at to : ℕ) → Keeps kept first s → LiesAs kept first at (branch t at to) → LiesAs kept first (at + 4) nop → test_fits t ≡ true → in_reach at to ≡ true → to % 4 ≡ 0 → Holds t s.regs
       → Moves 2 (board s at c) (board s to (c + 2))
   taken c t s at to k l n fit near even y =
       let wrap = no_wrap at l.mapped in
@@ -201,7 +201,7 @@ module _ (kept : ℕ → Bool) (bus : ℕ → Bus) (first : Memory) where
       two c (branch t at to) s s at to k k l n (branch_fits t (distance at to) fit (word_field _)) (branch_gate t (distance at to)) (branch_trap t (distance at to) (state_at s at))
       (branch_after t (distance at to) s at (bus c) true (passes t s.regs y) ∙ ap (in_slot s ((at + 4) % 2 ^ 32)) dest) (branch_seen t (distance at to) (state_at s at) (bus c) s.seen)
 
-  pub passed_by : (c : ℕ) (t : Test) (s : Run) (at to : ℕ) → Keeps kept first s → Lies kept first at (branch (opposite t) at to) → Lies kept first (at + 4) nop → test_fits t ≡ true → Holds t s.regs
+  pub passed_by : (c : ℕ) (t : Test) (s : Run) (at to : ℕ) → Keeps kept first s → LiesAs kept first at (branch (opposite t) at to) → LiesAs kept first (at + 4) nop → test_fits t ≡ true → Holds t s.regs
       → Moves 2 (board s at c) (board s (at + 8) (c + 2))
   passed_by c t s at to k l n fit y =
       let wrap = no_wrap at l.mapped in

@@ -1,5 +1,5 @@
 -- One instruction of a listing, by the word that stands at pc: the plain step of the processor.
-use Rattle.std.proofs.Common.{◌≡◌, ℕ, suc, ◌+◌, ◌-◌, ◌*◌, ◌/◌, ◌%◌, ◌^◌, ◌<◌, ◌≤◌, List, Bool, true, false, Option, Some, None, refl, sym, ap, ◌∙◌, arith, ⊎_elim, eq-eqb, ne_eqb}
+use Rattle.std.proofs.Common.{◌≡◌, ℕ, suc, ◌+◌, ◌-◌, ◌*◌, ◌/◌, ◌%◌, ◌^◌, ◌<◌, ◌≤◌, List, [], ◌∷◌, map, Bool, true, false, Option, Some, None, refl, sym, ap, ◌∙◌, arith, ⊎_elim, eq-eqb, ne_eqb}
 use Rattle.std.specs.Prelude.{not, nat_eq, ◌&&◌, ◌||◌, is_some, if◌then◌else◌}
 use Rattle.std.proofs.lemmas.Bool.{true≢false, false≢true, cases_Bool}
 use Rattle.psx_ins.specs.declared.ins.Ins.{Ins}
@@ -23,9 +23,21 @@ use Rattle.psx_cpu.specs.Step.{Move, Goes, Reads, Writes, Stops, entered, after,
 use Rattle.psx_flow.specs.Well.{is_gate}
 use Rattle.psx_flow.specs.Run.{Run, Access, accessed}
 use Rattle.psx_flow.specs.Plain.{Board, went, seen_by, seen_at, onward, plain_step, kernel_core}
-use Rattle.psx_flow.specs.Reaches.{keeps_word, Lies, Keeps}
+use Rattle.psx_flow.specs.Reaches.{keeps_word, Lies, Stands, Keeps}
 
 -- ---- the word at an address
+
+-- the word of an instruction stands at an address
+abbrev pub LiesAs : (ℕ → Bool) → Memory → ℕ → Ins → Type 0
+LiesAs kept m at i = Lies kept m at (word_of i)
+
+abbrev pub StandsAs : (ℕ → Bool) → Memory → ℕ → List Ins → Type 0
+StandsAs kept m at [] = Unit {0}
+StandsAs kept m at (i ∷ is) = LiesAs kept m at i × StandsAs kept m (at + 4) is
+
+pub as_code : (kept : ℕ → Bool) (m : Memory) (at : ℕ) (is : List Ins) → Stands kept m at (map word_of is) → StandsAs kept m at is
+as_code kept m at [] h = tt
+as_code kept m at (i ∷ is) h = (h.0, as_code kept m (at + 4) is h.1)
 
 pub both : (a b : Bool) → (a && b) ≡ true → (a ≡ true) × (b ≡ true)
 both true b h = (refl, h)
@@ -44,7 +56,7 @@ same_word kept first s p k h =
     let e0 = k.bytes p b.0 in let e1 = k.bytes (p + 1) b.1 in let e2 = k.bytes (p + 2) c.0 in let e3 = k.bytes (p + 3) c.1 in
     λ i. e0 i + e1 i * 2 ^ 8 + e2 i * 2 ^ 16 + e3 i * 2 ^ 24
 
-pub fetched : (kept : ℕ → Bool) (first : Memory) (s : Run) (at : ℕ) (i : Ins) → Keeps kept first s → Lies kept first at i → fits_fields i ≡ true → instruction_of (read_word s.bytes at) ≡ Some i
+pub fetched : (kept : ℕ → Bool) (first : Memory) (s : Run) (at : ℕ) (i : Ins) → Keeps kept first s → LiesAs kept first at i → fits_fields i ≡ true → instruction_of (read_word s.bytes at) ≡ Some i
 fetched kept first s at i k l fit =
     ap instruction_of (mapped_word s.bytes at l.mapped ∙ same_word kept first s (place at) k l.spared ∙ l.is) ∙ decodes i fit
 

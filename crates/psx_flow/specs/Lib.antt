@@ -12,3 +12,4 @@ pub mod Plain
 pub mod Reaches
 pub mod Kernel
 pub mod Tested
+pub mod Laws

@@ -1,14 +1,12 @@
 -- Where the words of a listing stand, and what running them comes to.
 use Rattle.std.specs.Prelude.{◌≡◌, ℕ, ◌+◌, ◌*◌, ◌%◌, ◌^◌, ◌<◌, ◌≤◌, Bool, true, ◌&&◌, IsTrue, List, [], ◌∷◌, Some}
-use Rattle.psx_ins.specs.declared.ins.Ins.{Ins}
-use Rattle.psx_ins.specs.Words.{word as word_of}
 use Rattle.psx_base.specs.Memory.{Memory, byte, word, is_mapped}
 use Rattle.psx_base.specs.Addresses.{place}
 use Rattle.psx_cpu.specs.Processor.{Bus}
 use Rattle.psx_flow.specs.Tree.{Tree, flat}
 use Rattle.psx_flow.specs.Well.{fits}
 use Rattle.psx_flow.specs.Spaced.{is_spaced}
-use Rattle.psx_flow.specs.Lowered.{code, reaches}
+use Rattle.psx_flow.specs.Lowered.{lowered, reaches}
 use Rattle.psx_flow.specs.Run.{Run}
 use Rattle.psx_flow.specs.Plain.{Board, steps, board}
 
@@ -17,24 +15,24 @@ module _ (kept : ℕ → Bool) where
   abbrev pub keeps_word : ℕ → Bool
   keeps_word p = (kept p && kept (p + 1)) && (kept (p + 2) && kept (p + 3))
 
-  -- the word of an instruction stands at an address, in memory, where no store goes
-  pub record Lies (m : Memory) (at : ℕ) (i : Ins) : Type 0 where
-    pub is : word m (place at) ≡ word_of i
+  -- a word stands at an address, in memory, where no store goes
+  pub record Lies (m : Memory) (at w : ℕ) : Type 0 where
+    pub is : word m (place at) ≡ w
     pub aligned : at % 4 ≡ 0
     pub mapped : is_mapped (place at) 4 ≡ true
     pub spared : keeps_word (place at) ≡ true
 
-  -- the words of instructions, one behind the other
-  abbrev pub Stands : Memory → ℕ → List Ins → Type 0
+  -- words, one behind the other
+  abbrev pub Stands : Memory → ℕ → List ℕ → Type 0
   Stands m at [] = Unit {0}
-  Stands m at (i ∷ is) = Lies m at i × Stands m (at + 4) is
+  Stands m at (w ∷ ws) = Lies m at w × Stands m (at + 4) ws
 
   -- A listing stands at an address, where it meets what is asked of one that is lowered: instructions and registers fit, branches and jumps go where they go, loads have room.
   pub record IsPlaced (m : Memory) (at : ℕ) (T : Tree) : Type 0 where
     pub fitting : IsTrue (fits T)
     pub reaching : IsTrue (reaches T at)
     pub roomy : IsTrue (is_spaced (flat T []))
-    pub words : Stands m at (code T at)
+    pub words : Stands m at (lowered T at)
 
   -- listings stand at their addresses
   abbrev pub ArePlaced : Memory → List (ℕ × Tree) → Type 0

@@ -5,6 +5,7 @@
 
 mod emit;
 mod fit;
+pub mod law;
 mod load;
 mod lowering;
 mod nesting;
