@@ -27,19 +27,22 @@ use Rattle.psx_flow.proofs.Room.{room, spaced, clear, begins, none_pending, clea
 use Rattle.psx_flow.proofs.Branches.{no_wrap, jumps_to, in_slot, opposite_fits}
 use Rattle.psx_flow.proofs.Moves.{stands_front, stands_at, pending_at, Moves, moves_on, From, reach_here, reach_then, reach_after, at_rest, one, two, taken, passed_by}
 
-target_fits : (a : ℕ) → nat_lt (target_of a) (2 ^ 26) ≡ true
+pub target_fits : (a : ℕ) → nat_lt (target_of a) (2 ^ 26) ≡ true
 target_fits a = lt-ltb _ _ (small a)
   where
     small : (a : ℕ) → target_of a < 2 ^ 26
     small a = omega arith
 
-even_8 : (at n : ℕ) → at % 4 ≡ 0 → (at + (8 + 4 * n)) % 4 ≡ 0
+pub register_fits : (n : Reg) → nat_lt n.0 32 ≡ true → fits_fields (JR n) ≡ true
+register_fits n h = ap (λ b. b && true && true && true) h
+
+pub even_8 : (at n : ℕ) → at % 4 ≡ 0 → (at + (8 + 4 * n)) % 4 ≡ 0
 even_8 at n h = omega arith
 
-even_16 : (at n : ℕ) → at % 4 ≡ 0 → (at + (16 + 4 * n)) % 4 ≡ 0
+pub even_16 : (at n : ℕ) → at % 4 ≡ 0 → (at + (16 + 4 * n)) % 4 ≡ 0
 even_16 at n h = omega arith
 
-even_two : (at n m : ℕ) → at % 4 ≡ 0 → (at + (16 + 4 * n + 4 * m)) % 4 ≡ 0
+pub even_two : (at n m : ℕ) → at % 4 ≡ 0 → (at + (16 + 4 * n + 4 * m)) % 4 ≡ 0
 even_two at n m h = omega arith
 
 -- where a tree's run ends
@@ -221,6 +224,3 @@ module _ (kept : ℕ → Bool) (bus : ℕ → Bus) (few : (n : ℕ) → (bus n).
         (reach_after kept bus first 2 c s.passed (suc s.passed) _ (board (passing s) (register s.regs n.0) (c + 2)) _ (omega arith)
         (two kept bus first c (JR n) s (passing s) at (register s.regs n.0) ks (passing_keeps s ks) st.0 st.1.0 (register_fits n f0.0) refl refl refl refl) refl
         (reach_here kept bus first _ _ _ _ (passing_keeps s ks) (inr h)))
-      where
-        register_fits : (n : Reg) → nat_lt n.0 32 ≡ true → fits_fields (JR n) ≡ true
-        register_fits n h = ap (λ b. b && true && true && true) h

@@ -20,3 +20,4 @@ pub mod Users
 pub mod Accesses
 pub mod Serves
 pub mod Settling
+pub mod Follow
