@@ -9,6 +9,7 @@ mod load;
 mod lowering;
 mod nesting;
 pub mod node;
+mod reading;
 mod sizing;
 mod spacing;
 #[cfg(test)]
@@ -17,5 +18,6 @@ mod tests;
 pub use lowering::lower;
 pub use nesting::well;
 pub use node::{Node, Test};
+pub use reading::reading_law;
 pub use sizing::size_of;
 pub use spacing::spaced;
