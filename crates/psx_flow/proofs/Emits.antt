@@ -1,5 +1,5 @@
 -- Node after node, the words of a tree are written.
-use Rattle.std.proofs.Common.{◌≡◌, ◌≢◌, ℕ, zero, suc, ◌+◌, ◌-◌, ◌*◌, ◌/◌, ◌%◌, ◌^◌, ◌<◌, ◌≤◌, max, Bool, true, false, ◌&&◌, if◌then◌else◌, nat_lt, nat_le, List, [], ◌∷◌, ◌++◌, map, length, set, get_or, drop, Some, IfSome, IsTrue, refl, sym, ap, ◌∙◌, subst, arith, length-append, append_assoc, drop-cons}
+use Rattle.std.proofs.Common.{◌≡◌, ℕ, zero, suc, ◌+◌, ◌-◌, ◌*◌, ◌%◌, ◌^◌, ◌<◌, ◌≤◌, Bool, true, false, ◌&&◌, if◌then◌else◌, nat_lt, List, [], ◌∷◌, ◌++◌, map, length, set, get_or, drop, Some, IfSome, IsTrue, refl, sym, ap, ◌∙◌, subst, arith, length-append, append_assoc, drop-cons}
 use Rattle.std.proofs.lemmas.List.{set-set, set_comm, map-append}
 use Rattle.std.proofs.lemmas.Bool.Decides.{nat_tests}
 use Rattle.std.proofs.Math.Seq.{set-append_seam}
@@ -8,14 +8,14 @@ use Rattle.psx_ins.specs.declared.ins.Ins.TheVariants.{JAL, J, JR}
 use Rattle.psx_ins.specs.Words.{word}
 use Rattle.psx_flow.specs.declared.node.Test.{Test}
 use Rattle.psx_flow.specs.declared.node.Node.{Node}
-use Rattle.psx_flow.specs.declared.node.Node.TheVariants.{Op, If, Other, While, End, Call, Jump, JumpTo}
+use Rattle.psx_flow.specs.declared.node.Node.TheVariants.{Other, End}
 use Rattle.psx_flow.specs.declared.emit.Bracket.{Bracket}
 use Rattle.psx_flow.specs.declared.emit.Bracket.TheVariants.{Choice, Turn}
 use Rattle.psx_flow.specs.Tree.{Tree, Stop, Do, When, Choose, Loop, Visit, Go, GoTo, flat, nest, size}
 use Rattle.psx_flow.specs.Reading.{tree_of}
-use Rattle.psx_flow.specs.Well.{is_well, is_well_tree, fits}
+use Rattle.psx_flow.specs.Well.{is_well, is_well_tree}
 use Rattle.psx_flow.specs.Lowered.{nop, always, opposite, branch_by, branch, distance, target_of, code, lowered}
-use Rattle.psx_flow.specs.Emit.{Lowering, apart, branch_word, with_slot, pushed, opened, at_other, at_end, emitted, run}
+use Rattle.psx_flow.specs.Emit.{Lowering, apart, branch_word, with_slot, pushed, opened, emitted, run}
 use Rattle.std.specs.List.{list_all}
 use Rattle.psx_flow.specs.Nodes.{node_fits}
 use Rattle.psx_flow.proofs.TreeRead.{tree_read}
@@ -116,7 +116,6 @@ pushes b bs h = pushes_by b bs (nat_lt (length bs) 16) (grind (arith, nat_tests)
 opening : (b : Bracket) (ns : List Node) (w : List ℕ) (bs : List Bracket) (p : ℕ) → length bs < 16 → run ns (opened b (state w bs p)) ≡ run ns (state (with_slot w p 0) (b ∷ bs) (p + 2))
 opening b ns w bs p h = ap (λ c. run ns (state (with_slot w p 0) c (p + 2))) (pushes b bs h)
 
-
 slotted_case : (x : ℕ) (T r : Tree) (k : List Node) (w : List ℕ) (bs : List Bracket) (p : ℕ) → run (flat T k) (state w bs p) ≡ run (flat r k) (state (with_slot w p x) bs (p + 2)) → relative T ≡ x ∷ 0 ∷ relative r → size T ≡ 2 + size r
     → run (flat r k) (state (with_slot w p x) bs (p + 2)) ≡ run k (state (write (with_slot w p x) (p + 2) (relative r)) bs (p + 2 + size r))
     → run (flat T k) (state w bs p) ≡ run k (state (write w p (relative T)) bs (p + size T))
@@ -133,7 +132,7 @@ emits (When t a r) k w bs p h =
     ∙ (emits a (End ∷ flat r k) (with_slot w p 0) (Choice p q ∷ bs) (p + 2) (omega arith)
     ∙ (emits r k (set (write (with_slot w p 0) (p + 2) (relative a)) p y) bs (p + 2 + size a) (omega arith)
     ∙ ap (run k) (states _ _ bs bs (p + 2 + size a + size r) (p + (2 + size a + size r))
-        (body_words w (relative a) (relative r) p (size a) y (length_is a) ∙ ap (λ z. write w p (z ∷ 0 ∷ (relative a ++ relative r))) (to_end q p (size a))) refl (omega arith))))
+    (body_words w (relative a) (relative r) p (size a) y (length_is a) ∙ ap (λ z. write w p (z ∷ 0 ∷ (relative a ++ relative r))) (to_end q p (size a))) refl (omega arith))))
 emits (Choose t a b r) k w bs p h =
     let q = opposite t in
     let j = p + 2 + size a in
@@ -146,10 +145,10 @@ emits (Choose t a b r) k w bs p h =
     ∙ (emits b (End ∷ flat r k) (with_slot v j 0) (Choice j always ∷ bs) (j + 2) (omega arith)
     ∙ (emits r k (set (write (with_slot v j 0) (j + 2) (relative b)) j z) bs (j + 2 + size b) (omega arith)
     ∙ ap (run k) (states _ _ bs bs (j + 2 + size b + size r) (p + (4 + size a + size b + size r))
-        (choose_words w (relative a) (relative b) (relative r) p (size a) (size b) y z (length_is a) (length_is b)
-        ∙ (ap (λ x. write w p (x ∷ 0 ∷ (relative a ++ (z ∷ 0 ∷ (relative b ++ relative r))))) (to_behind q p (size a))
-        ∙ ap (λ x. write w p (forth q (size a + 3) ∷ 0 ∷ (relative a ++ (x ∷ 0 ∷ (relative b ++ relative r))))) (to_end always j (size b))))
-        refl (omega arith))))))
+    (choose_words w (relative a) (relative b) (relative r) p (size a) (size b) y z (length_is a) (length_is b)
+    ∙ (ap (λ x. write w p (x ∷ 0 ∷ (relative a ++ (z ∷ 0 ∷ (relative b ++ relative r))))) (to_behind q p (size a))
+    ∙ ap (λ x. write w p (forth q (size a + 3) ∷ 0 ∷ (relative a ++ (x ∷ 0 ∷ (relative b ++ relative r))))) (to_end always j (size b))))
+    refl (omega arith))))))
 emits (Loop t a r) k w bs p h =
     let q = opposite t in
     let j = p + 2 + size a in
@@ -160,10 +159,10 @@ emits (Loop t a r) k w bs p h =
     ∙ (emits a (End ∷ flat r k) (with_slot w p 0) (Turn p q ∷ bs) (p + 2) (omega arith)
     ∙ (emits r k (with_slot v j z) bs (j + 2) (omega arith)
     ∙ ap (run k) (states _ _ bs bs (j + 2 + size r) (p + (4 + size a + size r))
-        (loop_words w (relative a) (relative r) p (size a) y z (length_is a)
-        ∙ (ap (λ x. write w p (x ∷ 0 ∷ (relative a ++ (z ∷ 0 ∷ relative r)))) (to_behind q p (size a))
-        ∙ ap (λ x. write w p (forth q (size a + 3) ∷ 0 ∷ (relative a ++ (x ∷ 0 ∷ relative r)))) (to_first p (size a))))
-        refl (omega arith))))
+    (loop_words w (relative a) (relative r) p (size a) y z (length_is a)
+    ∙ (ap (λ x. write w p (x ∷ 0 ∷ (relative a ++ (z ∷ 0 ∷ relative r)))) (to_behind q p (size a))
+    ∙ ap (λ x. write w p (forth q (size a + 3) ∷ 0 ∷ (relative a ++ (x ∷ 0 ∷ relative r)))) (to_first p (size a))))
+    refl (omega arith))))
 emits (Visit a r) k w bs p h = slotted_case (word (JAL (target_of a))) (Visit a r) r k w bs p refl refl refl (emits r k (with_slot w p (word (JAL (target_of a)))) bs (p + 2) h)
 emits (Go a r) k w bs p h = slotted_case (word (J (target_of a))) (Go a r) r k w bs p refl refl refl (emits r k (with_slot w p (word (J (target_of a)))) bs (p + 2) h)
 emits (GoTo n r) k w bs p h = slotted_case (word (JR n)) (GoTo n r) r k w bs p refl refl refl (emits r k (with_slot w p (word (JR n))) bs (p + 2) h)
@@ -218,6 +217,9 @@ lowered_is (Loop t a r) at =
 lowered_is (Visit a r) at = ap (λ l. word (JAL (target_of a)) ∷ 0 ∷ l) (lowered_is r (at + 8))
 lowered_is (Go a r) at = ap (λ l. word (J (target_of a)) ∷ 0 ∷ l) (lowered_is r (at + 8))
 lowered_is (GoTo n r) at = ap (λ l. word (JR n) ∷ 0 ∷ l) (lowered_is r (at + 8))
+
+pub lowered_length : (T : Tree) (at : ℕ) → length (lowered T at) ≡ size T
+lowered_length T at = ap (λ (l : List ℕ). length l) (lowered_is T at) ∙ length_is T
 
 tree_nest : (T : Tree) (nodes : List Node) → IsTrue (is_well nodes) → flat T [] ≡ nodes → nest T ≤ 16
 tree_nest T nodes h e =

@@ -1,13 +1,13 @@
 -- The words of a listing, counted node by node.
-use Rattle.std.proofs.Common.{◌≡◌, ℕ, ◌+◌, ◌*◌, ◌<◌, ◌≤◌, ◌^◌, List, [], ◌∷◌, length, take, refl, sym, ap, ◌∙◌, IsTrue, arith}
+use Rattle.std.proofs.Common.{◌≡◌, ℕ, ◌+◌, ◌*◌, ◌≤◌, List, [], ◌∷◌, length, take, refl, sym, ap, ◌∙◌, IsTrue, arith}
 use Rattle.std.specs.Prelude.{sum_by}
 use Rattle.std.proofs.lemmas.List.Sums.{sum_by-cons}
 use Rattle.std.proofs.lemmas.List.{take_all}
 use Rattle.psx_flow.specs.declared.node.Node.{Node}
-use Rattle.psx_flow.specs.declared.node.Node.TheVariants.{Op, If, Other, While, End, Call, Jump, JumpTo}
+use Rattle.psx_flow.specs.declared.node.Node.TheVariants.{Other, End}
 use Rattle.psx_flow.specs.Tree.{Tree, Stop, Do, When, Choose, Loop, Visit, Go, GoTo, flat, size}
 use Rattle.psx_flow.specs.Well.{IsWell, is_well}
-use Rattle.psx_flow.specs.Emit.{weight}
+use Rattle.psx_flow.specs.Nodes.{weight}
 use Rattle.psx_flow.proofs.BodySteps.{well_means}
 
 abbrev total : List Node → ℕ

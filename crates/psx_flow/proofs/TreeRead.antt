@@ -1,5 +1,5 @@
 -- What is read from the flat list of a tree is that tree, and what is read as a tree is its flat list.
-use Rattle.std.proofs.Common.{◌≡◌, ℕ, List, [], ◌∷◌, Option, Some, None, refl, sym, ap, ◌∙◌}
+use Rattle.std.proofs.Common.{◌≡◌, List, [], ◌∷◌, Some, refl, sym, ap, ◌∙◌}
 use Rattle.psx_flow.specs.declared.node.Test.{Test}
 use Rattle.psx_flow.specs.declared.node.Node.{Node}
 use Rattle.psx_flow.specs.declared.node.Node.TheVariants.{Op, If, Other, While, End, Call, Jump, JumpTo}

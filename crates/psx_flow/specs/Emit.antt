@@ -1,6 +1,5 @@
 -- The words node by node: those of a bracket's branch come when its end does. Only private contracts cite it: `Lowered` says what is promised.
-use Rattle.std.specs.Prelude.{ℕ, ◌+◌, ◌-◌, ◌*◌, ◌%◌, ◌^◌, ◌<◌, IsTrue, nat_lt, List, [], ◌∷◌, length, slice_set, Option, Some, None, if◌then◌else◌}
-use Rattle.psx_ins.specs.declared.reg.Reg.{Reg}
+use Rattle.std.specs.Prelude.{ℕ, ◌+◌, ◌-◌, ◌%◌, ◌^◌, ◌<◌, IsTrue, nat_lt, List, [], ◌∷◌, length, reverse, slice_set, if◌then◌else◌}
 use Rattle.psx_ins.specs.declared.ins.Ins.{Ins}
 use Rattle.psx_ins.specs.declared.ins.Ins.TheVariants.{JAL, J, JR}
 use Rattle.psx_ins.specs.Words.{word}
@@ -17,6 +16,10 @@ pub record Lowering : Type 0 where
   pub words : List ℕ
   pub brackets : List Bracket
   pub at : ℕ
+
+-- with the open brackets as the code holds them, the innermost last
+abbrev pub so_far : List ℕ → List Bracket → ℕ → Lowering
+so_far w items j = record { words = w; brackets = reverse items; at = j }
 
 -- the words from the slot of a branch at a place to another place, as 16 bits with sign
 abbrev pub apart : (from to : ℕ) → ℕ
@@ -70,18 +73,3 @@ run (n ∷ ns) s = run ns (emitted n s)
 abbrev pub BracketFits : Bracket → Type 0
 BracketFits (Choice p t) = (p < 2 ^ 40) × IsTrue (test_fits t)
 BracketFits (Turn p t) = (p < 2 ^ 40) × IsTrue (test_fits t)
-
--- the words of a node with its slots, those of a While's End among the While's
-abbrev pub weight : Node → ℕ
-weight (Op i) = 1
-weight (If t) = 2
-weight Other = 2
-weight (While t) = 4
-weight End = 0
-weight (Call a) = 2
-weight (Jump a) = 2
-weight (JumpTo n) = 2
-
-abbrev pub number_of : Option Reg → Option ℕ
-number_of None = None
-number_of (Some r) = Some r.0

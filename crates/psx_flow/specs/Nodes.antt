@@ -1,5 +1,6 @@
 -- The rules of a listing node by node. Only private contracts cite it: `Well` says what is promised.
-use Rattle.std.specs.Prelude.{Bool, true, nat_lt, List, [], ◌∷◌, length, Option, Some, None, if◌then◌else◌}
+use Rattle.std.specs.Prelude.{ℕ, Bool, true, nat_lt, List, [], ◌∷◌, length, Option, Some, None, if◌then◌else◌}
+use Rattle.psx_ins.specs.declared.reg.Reg.{Reg}
 use Rattle.psx_flow.specs.declared.node.Node.{Node}
 use Rattle.psx_flow.specs.declared.node.Node.TheVariants.{Op, If, Other, While, End, Call, Jump, JumpTo}
 use Rattle.psx_flow.specs.declared.nesting.Body.{Body}
@@ -32,3 +33,19 @@ bodies_after (Op i) bs = Some bs
 bodies_after (Call a) bs = Some bs
 bodies_after (Jump a) bs = Some bs
 bodies_after (JumpTo n) bs = Some bs
+
+-- the words of a node with its slots, those of a While's End among the While's
+abbrev pub weight : Node → ℕ
+weight (Op i) = 1
+weight (If t) = 2
+weight Other = 2
+weight (While t) = 4
+weight End = 0
+weight (Call a) = 2
+weight (Jump a) = 2
+weight (JumpTo n) = 2
+
+-- the number of a register
+abbrev pub number_of : Option Reg → Option ℕ
+number_of None = None
+number_of (Some r) = Some r.0

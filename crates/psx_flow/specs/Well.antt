@@ -1,5 +1,5 @@
 -- Which lists of nodes are listings.
-use Rattle.std.specs.Prelude.{◌≡◌, ℕ, ◌≤◌, Bool, true, false, not, ◌&&◌, ◌||◌, nat_lt, nat_le, IsTrue, List, [], Option, Some, None}
+use Rattle.std.specs.Prelude.{◌≡◌, ◌≤◌, Bool, true, false, not, ◌&&◌, ◌||◌, nat_lt, nat_le, IsTrue, List, [], Option, Some, None}
 use Rattle.psx_ins.specs.declared.reg.Reg.{Reg}
 use Rattle.psx_ins.specs.declared.ins.Ins.{Ins}
 use Rattle.psx_ins.specs.declared.ins.Ins.TheVariants.{SYSCALL, BREAK, RFE}
@@ -12,15 +12,15 @@ use Rattle.psx_flow.specs.Tree.{Tree, Stop, Do, When, Choose, Loop, Visit, Go, G
 use Rattle.psx_flow.specs.Reading.{tree_of}
 
 -- an instruction that enters or leaves the kernel
-abbrev pub is_gate : Ins → Bool
-is_gate (SYSCALL code) = true
-is_gate (BREAK code) = true
-is_gate RFE = true
-is_gate _ = false
+abbrev pub enters_or_leaves : Ins → Bool
+enters_or_leaves (SYSCALL code) = true
+enters_or_leaves (BREAK code) = true
+enters_or_leaves RFE = true
+enters_or_leaves _ = false
 
 -- an instruction that may stand as an Op, and has a word
 abbrev pub is_op : Ins → Bool
-is_op i = not (is_branch i || is_gate i) && fits_fields i
+is_op i = not (is_branch i || enters_or_leaves i) && fits_fields i
 
 abbrev pub is_register : Reg → Bool
 is_register r = nat_lt r.0 32

@@ -3,14 +3,14 @@ ghost use Rattle.std.specs.Prelude.{◌≡◌, ◌+◌, ◌<◌, ◌≤◌, ◌^
 ghost use Rattle.psx_flow.specs.Well.{test_fits};
 ghost use Rattle.psx_flow.specs.Nodes.{node_fits};
 ghost use Rattle.psx_flow.specs.Lowered.{branch_by as branch_by_test, opposite as opposite_of, target_of};
-ghost use Rattle.psx_flow.specs.Emit.{BracketFits, branch_word, with_slot, pushed, emitted};
+ghost use Rattle.psx_flow.specs.Emit.{BracketFits, so_far, branch_word, with_slot, pushed, emitted};
 
-use crate::node::{Node, Test};
 use crate::nesting::DEEPEST;
+use crate::node::{Node, Test};
 use arrayvec::ArrayVec;
+use psx_ins::encode;
 use psx_ins::ins::Ins;
 use psx_ins::reg::Reg;
-use psx_ins::encode;
 
 // A bracket that is open: the place of its branch, and the branch's test.
 #[derive(Clone, Copy)]
@@ -58,13 +58,13 @@ fn branch_by(test: Test, imm: u16) -> Ins
     }
 }
 
-// The branch at a place to another, where a test holds.
+// The word of the branch at a place to another, where a test holds. Places are counted in words.
 fn branch(test: Test, from: usize, to: usize) -> u32
     requires places { (from < 2 ^ 40) × (to < 2 ^ 41) }
     requires test { IsTrue (test_fits test) }
     ensures { result ≡ branch_word test from to }
 {
-    let words = (to + 0x1_0000 - (from + 1).min(to + 0x1_0000)) % 0x1_0000;
+    let words = (to + 0x1_0000).saturating_sub(from + 1) % 0x1_0000;
     encode(branch_by(test, words as u16))
 }
 
@@ -75,7 +75,7 @@ fn target(to: u32) -> u32
     to / 4 % 0x400_0000
 }
 
-// Writes a word, where it has a place.
+// Writes a word, where it has a place, as all words of a listing have.
 fn put(words: &mut [u32], at: usize, word: u32)
     ensures { words.new ≡ slice_set words.old at word }
 {
@@ -93,7 +93,7 @@ fn put_with_slot(words: &mut [u32], at: usize, word: u32)
     put(words, at + 1, 0);
 }
 
-// Opens a bracket, where there is room.
+// Opens a bracket, where there is room, as in a listing there is.
 fn open(brackets: &mut Brackets, bracket: Bracket)
     requires bracket { BracketFits bracket }
     requires others { All BracketFits brackets.old.items }
@@ -116,11 +116,11 @@ fn close(brackets: &mut Brackets) -> Option<Bracket>
     brackets.pop()
 }
 
-// The branch of an If goes behind the Other, which has a branch of its own.
+// The branch of an If goes behind its Other, and the Other's own branch, which skips what follows, comes with the End.
 fn emit_other(words: &mut [u32], brackets: &mut Brackets, at: usize) -> usize
     requires small { at < 2 ^ 40 }
     requires open { All BracketFits brackets.old.items }
-    ensures value { record { words = words.new; brackets = reverse brackets.new.items; at = result } ≡ emitted Node.Other (record { words = words.old; brackets = reverse brackets.old.items; at = at }) }
+    ensures value { so_far words.new brackets.new.items result ≡ emitted Node.Other (so_far words.old brackets.old.items at) }
     ensures near { result ≤ at + 2 }
     ensures fit { All BracketFits brackets.new.items }
 {
@@ -135,11 +135,11 @@ fn emit_other(words: &mut [u32], brackets: &mut Brackets, at: usize) -> usize
     }
 }
 
-// The branch of a bracket goes behind its End, which of a While is a branch back.
+// The branch of a bracket goes behind its End. The End of a While is a branch back to the While.
 fn emit_end(words: &mut [u32], brackets: &mut Brackets, at: usize) -> usize
     requires small { at < 2 ^ 40 }
     requires open { All BracketFits brackets.old.items }
-    ensures value { record { words = words.new; brackets = reverse brackets.new.items; at = result } ≡ emitted Node.End (record { words = words.old; brackets = reverse brackets.old.items; at = at }) }
+    ensures value { so_far words.new brackets.new.items result ≡ emitted Node.End (so_far words.old brackets.old.items at) }
     ensures near { result ≤ at + 2 }
     ensures fit { All BracketFits brackets.new.items }
 {
@@ -148,9 +148,9 @@ fn emit_end(words: &mut [u32], brackets: &mut Brackets, at: usize) -> usize
             put(words, from, branch(test, from, at));
             at
         }
-        Some(Bracket::Turn(from, test)) => {
-            put(words, from, branch(test, from, at + 2));
-            put_with_slot(words, at, branch(ALWAYS, at, from));
+        Some(Bracket::Turn(first, test)) => {
+            put(words, first, branch(test, first, at + 2));
+            put_with_slot(words, at, branch(ALWAYS, at, first));
             at + 2
         }
         None => at,
@@ -162,7 +162,7 @@ pub fn emit(node: Node, words: &mut [u32], brackets: &mut Brackets, at: usize) -
     requires node { IsTrue (node_fits node) }
     requires small { at < 2 ^ 40 }
     requires open { All BracketFits brackets.old.items }
-    ensures value { record { words = words.new; brackets = reverse brackets.new.items; at = result } ≡ emitted node (record { words = words.old; brackets = reverse brackets.old.items; at = at }) }
+    ensures value { so_far words.new brackets.new.items result ≡ emitted node (so_far words.old brackets.old.items at) }
     ensures near { result ≤ at + 2 }
     ensures fit { All BracketFits brackets.new.items }
 {

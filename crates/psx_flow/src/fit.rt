@@ -1,6 +1,6 @@
 // What may stand in a listing by itself.
 ghost use Rattle.std.specs.Prelude.{◌≡◌, ◌||◌};
-ghost use Rattle.psx_flow.specs.Well.{is_gate, is_op, is_register, test_fits};
+ghost use Rattle.psx_flow.specs.Well.{enters_or_leaves, is_op, is_register, test_fits};
 ghost use Rattle.psx_flow.specs.Nodes.{node_fits};
 ghost use Rattle.psx_cpu.specs.Guard.{is_branch};
 
@@ -11,7 +11,7 @@ use psx_ins::reg::Reg;
 
 // Whether an instruction is a branch, a jump, or one that enters or leaves the kernel.
 fn goes_elsewhere(ins: Ins) -> bool
-    ensures { result ≡ (is_branch ins || is_gate ins) }
+    ensures { result ≡ (is_branch ins || enters_or_leaves ins) }
 {
     match ins {
         Ins::JR { .. }

@@ -12,6 +12,7 @@ mod nesting;
 pub mod kinds;
 pub mod listings;
 pub mod node;
+mod reading;
 mod sizing;
 mod spacing;
 #[cfg(test)]
@@ -21,5 +22,6 @@ pub use lowering::lower;
 pub use nesting::well;
 pub use kinds::Tested;
 pub use node::{Node, Test};
+pub use reading::reading_law;
 pub use sizing::size_of;
 pub use spacing::spaced;

@@ -1,7 +1,7 @@
 // Loads, and the registers of an instruction.
 ghost use Rattle.std.specs.Prelude.{◌≡◌, Some, None};
 ghost use Rattle.psx_flow.specs.Spaced.{load_of, touches as touches_by};
-ghost use Rattle.psx_flow.specs.Emit.{number_of};
+ghost use Rattle.psx_flow.specs.Nodes.{number_of};
 
 use psx_ins::ins::Ins;
 use psx_ins::reg::Reg;
@@ -29,9 +29,8 @@ pub fn touches(ins: Ins, reg: Reg) -> bool
 {
     let n = reg.0;
     match ins {
-        Ins::SLL { t, d, .. }
-        | Ins::SRL { t, d, .. }
-        | Ins::SRA { t, d, .. } => n == t.0 || n == d.0,
+        Ins::SLL { t, d, .. } | Ins::SRL { t, d, .. } | Ins::SRA { t, d, .. } => n == t.0
+            || n == d.0,
         Ins::SLLV { s, t, d }
         | Ins::SRLV { s, t, d }
         | Ins::SRAV { s, t, d }
@@ -53,8 +52,7 @@ pub fn touches(ins: Ins, reg: Reg) -> bool
         | Ins::BGEZ { s, .. }
         | Ins::BLEZ { s, .. }
         | Ins::BGTZ { s, .. } => n == s.0,
-        Ins::MFHI { d }
-        | Ins::MFLO { d } => n == d.0,
+        Ins::MFHI { d } | Ins::MFLO { d } => n == d.0,
         Ins::MULT { s, t }
         | Ins::MULTU { s, t }
         | Ins::DIV { s, t }
@@ -80,13 +78,8 @@ pub fn touches(ins: Ins, reg: Reg) -> bool
         | Ins::SWL { s, t, .. }
         | Ins::SW { s, t, .. }
         | Ins::SWR { s, t, .. } => n == s.0 || n == t.0,
-        Ins::LUI { t, .. }
-        | Ins::MFC0 { t, .. }
-        | Ins::MTC0 { t, .. } => n == t.0,
-        Ins::SYSCALL { .. }
-        | Ins::BREAK { .. }
-        | Ins::J { .. }
-        | Ins::RFE => false,
+        Ins::LUI { t, .. } | Ins::MFC0 { t, .. } | Ins::MTC0 { t, .. } => n == t.0,
+        Ins::SYSCALL { .. } | Ins::BREAK { .. } | Ins::J { .. } | Ins::RFE => false,
         Ins::JAL { .. } => n == 31,
         Ins::BLTZAL { s, .. } | Ins::BGEZAL { s, .. } => n == s.0 || n == 31,
     }

@@ -1,8 +1,9 @@
 //! How many words a listing has.
-ghost use Rattle.std.specs.Prelude.{◌≡◌, ◌<◌, ◌≤◌, ◌^◌, IsTrue, [], length};
+ghost use Rattle.std.specs.Prelude.{◌≡◌, ℕ, ◌<◌, ◌≤◌, ◌^◌, IsTrue, [], length};
 ghost use Rattle.psx_flow.specs.Tree.{Tree, flat, size};
 ghost use Rattle.psx_flow.specs.Well.{is_well};
-ghost use Rattle.psx_flow.specs.Emit.{weight};
+ghost use Rattle.psx_flow.specs.Lowered.{lowered};
+ghost use Rattle.psx_flow.specs.Nodes.{weight};
 
 use crate::node::Node;
 
@@ -19,11 +20,12 @@ fn words_of(node: Node) -> u64
     }
 }
 
-/// The number of words of a listing.
+/// The number of words of a listing, wherever it stands.
 pub fn size_of(nodes: &[Node]) -> u32
     requires well { IsTrue (is_well nodes.now) }
     requires few { length nodes.now < 2 ^ 31 }
-    ensures { (tree : Tree) → flat tree [] ≡ nodes.now → result ≡ size tree }
+    ensures value { (tree : Tree) → flat tree [] ≡ nodes.now → result ≡ size tree }
+    ensures words { (tree : Tree) (at : ℕ) → flat tree [] ≡ nodes.now → result ≡ length (lowered tree at) }
 {
     let mut sum = 0;
     for node in nodes {

@@ -1,7 +1,7 @@
-use Rattle.std.proofs.Common.{◌≡◌, ◌∙◌, [], reverse, ap, sym, arith}
+use Rattle.std.proofs.Common.{ap, arith}
 use Rattle.psx_flow.specs.declared.node.Node.TheVariants.{Op}
 use Rattle.psx_flow.specs.Lowered.{nop}
-use Rattle.psx_flow.specs.Emit.{run}
+use Rattle.psx_flow.specs.Emit.{so_far, run}
 use Rattle.psx_flow.proofs.BodySteps.{listing_fits}
 use Rattle.psx_flow.proofs.Emits.{turn, rest_fits, loop_done}
 use Rattle.psx_flow.proofs.lowering.lower.Goals as goal
@@ -11,7 +11,7 @@ loop-node-init c = record {
   small = omega arith;
   fit = listing_fits c.args.nodes.now c.requires.well;
   nested = λ k d lt. absurd (grind (arith, c.new-brackets.ensures, lt));
-  words = ap (λ b. run c.args.nodes.now record { words = c.args.words.now; brackets = reverse b; at = 0 }) c.new-brackets.ensures;
+  words = ap (λ b. run c.args.nodes.now (so_far c.args.words.now b 0)) c.new-brackets.ensures;
 }
 
 pub loop-node-preserved : goal.loop-node-preserved
@@ -23,4 +23,4 @@ loop-node-preserved c = record {
 }
 
 pub returns : goal.returns
-returns c = λ tree e. loop_done tree c.args.nodes.now c.args.at c.args.words.now record { words = c.loop-node.words; brackets = reverse c.loop-node.brackets.items; at = c.loop-node.next } c.loop-node.node-index c.loop-node-test.false c.requires.well e c.requires.room c.loop-node.invariant.words
+returns c = λ tree e. loop_done tree c.args.nodes.now c.args.at c.args.words.now (so_far c.loop-node.words c.loop-node.brackets.items c.loop-node.next) c.loop-node.node-index c.loop-node-test.false c.requires.well e c.requires.room c.loop-node.invariant.words

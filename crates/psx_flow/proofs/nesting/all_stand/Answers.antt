@@ -1,4 +1,4 @@
-use Rattle.std.proofs.Common.{◌≡◌, ◌≤◌, ◌∙◌, [], length, reverse, ap, sym, arith}
+use Rattle.std.proofs.Common.{◌≤◌, ◌∙◌, length, reverse, ap, sym, arith}
 use Rattle.std.proofs.lemmas.List.{length-reverse}
 use Rattle.psx_flow.specs.declared.node.Node.TheVariants.{Op}
 use Rattle.psx_flow.specs.Lowered.{nop}

@@ -1,6 +1,6 @@
 use Rattle.std.proofs.Common.{◌≡◌, ◌*◌, ◌≤◌, take}
 use Rattle.std.specs.Prelude.{sum_by}
-use Rattle.psx_flow.specs.Emit.{weight}
+use Rattle.psx_flow.specs.Nodes.{weight}
 use Rattle.psx_flow.proofs.sizing.size_of.Given as goal
 
 abbrev pub invariant-loop-node : goal.invariant-loop-node
