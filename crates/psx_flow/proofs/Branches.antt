@@ -17,7 +17,7 @@ use Rattle.psx_cpu.specs.Traps.{trap_of}
 use Rattle.psx_cpu.specs.Guard.{is_branch}
 use Rattle.psx_flow.specs.declared.node.Test.{Test}
 use Rattle.psx_flow.specs.declared.node.Test.TheVariants.{Same, Differ, NotAbove, Above, Negative, NotNegative}
-use Rattle.psx_flow.specs.Well.{is_gate, is_register, test_fits}
+use Rattle.psx_flow.specs.Well.{enters_or_leaves, is_register, test_fits}
 use Rattle.psx_flow.specs.Lowered.{opposite, branch_by, distance, in_reach, in_region}
 use Rattle.psx_flow.specs.Run.{Run, Access, accessed, state_at, done}
 use Rattle.psx_flow.specs.Meets.{Holds}
@@ -110,7 +110,7 @@ abbrev pub resting : State → ℕ → State
 resting y pc = record { context = record { regs = y.context.regs; pending = y.context.pending; pc = pc; next = (pc + 4) % 2 ^ 32; in_slot = false }; cop0 = y.cop0; bytes = y.bytes }
 
 -- an Op goes on to the next word
-pub op_after : (i : Ins) (s : Run) (at : ℕ) (bus : Bus) → is_branch i ≡ false → is_gate i ≡ false → (at + 4) % 2 ^ 32 ≡ at + 4
+pub op_after : (i : Ins) (s : Run) (at : ℕ) (bus : Bus) → is_branch i ≡ false → enters_or_leaves i ≡ false → (at + 4) % 2 ^ 32 ≡ at + 4
     → effect i (state_at s at) bus ≡ (let y = effect i (state_at s at) bus in record { context = record { regs = y.context.regs; pending = y.context.pending; pc = at + 4; next = (at + 4 + 4) % 2 ^ 32; in_slot = false }; cop0 = y.cop0; bytes = y.bytes })
 
 op_after (JR _) s at bus h g e = absurd (true≢false h)
@@ -189,13 +189,13 @@ branch_trap (Above a) imm x = refl
 branch_trap (Negative a) imm x = refl
 branch_trap (NotNegative a) imm x = refl
 
-pub branch_gate : (t : Test) (imm : ℕ) → is_gate (branch_by t imm) ≡ false
-branch_gate (Same a b) imm = refl
-branch_gate (Differ a b) imm = refl
-branch_gate (NotAbove a) imm = refl
-branch_gate (Above a) imm = refl
-branch_gate (Negative a) imm = refl
-branch_gate (NotNegative a) imm = refl
+pub branch_stays : (t : Test) (imm : ℕ) → enters_or_leaves (branch_by t imm) ≡ false
+branch_stays (Same a b) imm = refl
+branch_stays (Differ a b) imm = refl
+branch_stays (NotAbove a) imm = refl
+branch_stays (Above a) imm = refl
+branch_stays (Negative a) imm = refl
+branch_stays (NotNegative a) imm = refl
 
 pub branch_seen : (t : Test) (imm : ℕ) (x : State) (bus : Bus) (q : List Access) → accessed (branch_by t imm) x bus q ≡ q
 branch_seen (Same a b) imm x bus q = refl

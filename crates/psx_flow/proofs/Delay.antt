@@ -16,7 +16,7 @@ use Rattle.psx_cpu.specs.Changes.{writes, hi_lo, memory_is, branch_target, jumps
 use Rattle.psx_cpu.specs.Effect.{effect}
 use Rattle.psx_cpu.specs.Traps.{load_at, store_at, use_trap, raises, or_else, trap_of}
 use Rattle.psx_flow.specs.Spaced.{registers_of, is_among, touches}
-use Rattle.psx_flow.specs.Well.{is_gate}
+use Rattle.psx_flow.specs.Well.{enters_or_leaves}
 use Rattle.psx_flow.specs.Run.{Access, Load, Store, word_load, word_store, accessed}
 
 -- ---- another register is read as before
@@ -93,7 +93,7 @@ module _ (c : Registers) (n v pc next : ℕ) (slot : Bool) (z : Cop0) (m : Memor
   newest s t h = ap (λ b. if b then v else register c t.0) (neither (nat_eq n t.0) false (neither (nat_eq n s.0) (is_among n (t ∷ [])) h).1).0 ∙ or_of s t h
 
   -- the effect, for each instruction but SYSCALL, BREAK and RFE, which have none
-  pub delayed : (i : Ins) → is_among n (registers_of i).0 ≡ false → is_among n (registers_of i).1 ≡ false → is_gate i ≡ false → effect i waiting bus ≡ effect i settled_one bus
+  pub delayed : (i : Ins) → is_among n (registers_of i).0 ≡ false → is_among n (registers_of i).1 ≡ false → enters_or_leaves i ≡ false → effect i waiting bus ≡ effect i settled_one bus
   delayed (SLL t d n) r w g = λ j. writes settled_one d ((of t [] r j) * 2 ^ n % 2 ^ 32)
   delayed (SRL t d n) r w g = λ j. writes settled_one d ((of t [] r j) / 2 ^ n)
   delayed (SRA t d n) r w g = λ j. writes settled_one d (shifted_signed (of t [] r j) n)

@@ -17,7 +17,7 @@ use Rattle.psx_cpu.specs.Traps.{trap_of}
 use Rattle.psx_cpu.specs.Guard.{is_branch}
 use Rattle.psx_flow.specs.declared.node.Test.{Test}
 use Rattle.psx_flow.specs.Tree.{Tree, Stop, Do, When, Choose, Loop, Visit, Go, GoTo, size}
-use Rattle.psx_flow.specs.Well.{is_gate, is_op, test_fits}
+use Rattle.psx_flow.specs.Well.{enters_or_leaves, is_op, test_fits}
 use Rattle.psx_flow.specs.Spaced.{registers_of, is_among, touches}
 use Rattle.psx_flow.specs.Lowered.{opposite, nop, always, branch_by, branch, distance, code, in_reach}
 use Rattle.psx_flow.specs.Run.{Run, Access, accessed, state_at, done}
@@ -27,7 +27,7 @@ use Rattle.psx_flow.specs.Reaches.{Keeps, Reaches}
 use Rattle.psx_flow.proofs.Delay.{waiting, settled_one, delayed, delayed_trap, delayed_access, neither}
 use Rattle.psx_flow.proofs.Step.{LiesAs, StandsAs, both, fetched, standing, step_is}
 use Rattle.psx_flow.proofs.Room.{clear}
-use Rattle.psx_flow.proofs.Branches.{no_wrap, mapped_below, goes_to, op_after, test, passes, fails, in_slot, branch_after, branch_trap, branch_gate, branch_seen, branch_fits, opposite_fits}
+use Rattle.psx_flow.proofs.Branches.{no_wrap, mapped_below, goes_to, op_after, test, passes, fails, in_slot, branch_after, branch_trap, branch_stays, branch_seen, branch_fits, opposite_fits}
 
 -- ---- where words stand
 
@@ -72,7 +72,7 @@ abbrev pub pending_at : Run → Registers → Option (ℕ × ℕ) → ℕ → St
 pending_at s raw p at = record { context = record { regs = raw; pending = p; pc = at; next = (at + 4) % 2 ^ 32; in_slot = false }; cop0 = s.cop0; bytes = s.bytes }
 
 -- what an Op does with a load pending that it doesn't touch is what it does where the load is settled
-module _ (i : Ins) (s : Run) (bus : Bus) (at : ℕ) (T : Tree) (gate : is_gate i ≡ false) where
+module _ (i : Ins) (s : Run) (bus : Bus) (at : ℕ) (T : Tree) (gate : enters_or_leaves i ≡ false) where
   untouched : (n : ℕ) → not (touches i n) ≡ true → (is_among n (registers_of i).0 ≡ false) × (is_among n (registers_of i).1 ≡ false)
   untouched n h = neither _ _ (go (touches i n) h)
     where
@@ -165,8 +165,8 @@ module _ (kept : ℕ → Bool) (bus : ℕ → Bus) (first : Memory) where
       → Moves 1 (standing (pending_at s raw p at) s.seen c)
         (let y = effect i (state_at s at) (bus c) in standing (pending_at (done i s at (bus c)) y.context.regs y.context.pending (at + 4)) (done i s at (bus c)).seen (c + 1))
   one c i s raw p at T e clr k l w none =
-      let u = both (not (is_branch i || is_gate i)) (fits_fields i) w in
-      let o = neither (is_branch i) (is_gate i) (unsaid _ u.0) in
+      let u = both (not (is_branch i || enters_or_leaves i)) (fits_fields i) w in
+      let o = neither (is_branch i) (enters_or_leaves i) (unsaid _ u.0) in
       let x = pending_at s raw p at in
       ap (λ b. on b (steps bus 0)) (step_is bus x s.seen c i l.aligned k.masked (fetched kept first s at i k l u.1) o.1 (settles_trap i s (bus c) at T o.1 raw p e clr ∙ none))
       ∙ ap (λ q. Some (standing (effect i x (bus c)) q (suc c))) (settles_access i s (bus c) at T o.1 raw p s.seen e clr)
@@ -178,7 +178,7 @@ module _ (kept : ℕ → Bool) (bus : ℕ → Bus) (first : Memory) where
       unsaid false h = refl
 
   -- a branch or a jump with its slot
-  pub two : (c : ℕ) (i : Ins) (s e : Run) (at to : ℕ) → Keeps kept first s → Keeps kept first e → LiesAs kept first at i → LiesAs kept first (at + 4) nop → fits_fields i ≡ true → is_gate i ≡ false → trap_of i (state_at s at).context ≡ None
+  pub two : (c : ℕ) (i : Ins) (s e : Run) (at to : ℕ) → Keeps kept first s → Keeps kept first e → LiesAs kept first at i → LiesAs kept first (at + 4) nop → fits_fields i ≡ true → enters_or_leaves i ≡ false → trap_of i (state_at s at).context ≡ None
       → effect i (state_at s at) (bus c) ≡ in_slot e ((at + 4) % 2 ^ 32) to → accessed i (state_at s at) (bus c) s.seen ≡ e.seen → Moves 2 (board s at c) (board e to (c + 2))
   two c i s e at to ks ke l n fit gate none goes same =
       let f : suc (suc c) ≡ c + 2 = omega arith in
@@ -198,7 +198,7 @@ module _ (kept : ℕ → Bool) (bus : ℕ → Bus) (first : Memory) where
   taken c t s at to k l n fit near even y =
       let wrap = no_wrap at l.mapped in
       let dest = ap (λ a. (a + sign_extended (distance at to) * 4) % 2 ^ 32) wrap ∙ goes_to at to (mapped_below at l.mapped) l.aligned even near in
-      two c (branch t at to) s s at to k k l n (branch_fits t (distance at to) fit (word_field _)) (branch_gate t (distance at to)) (branch_trap t (distance at to) (state_at s at))
+      two c (branch t at to) s s at to k k l n (branch_fits t (distance at to) fit (word_field _)) (branch_stays t (distance at to)) (branch_trap t (distance at to) (state_at s at))
       (branch_after t (distance at to) s at (bus c) true (passes t s.regs y) ∙ ap (in_slot s ((at + 4) % 2 ^ 32)) dest) (branch_seen t (distance at to) (state_at s at) (bus c) s.seen)
 
   pub passed_by : (c : ℕ) (t : Test) (s : Run) (at to : ℕ) → Keeps kept first s → LiesAs kept first at (branch (opposite t) at to) → LiesAs kept first (at + 4) nop → test_fits t ≡ true → Holds t s.regs
@@ -208,5 +208,5 @@ module _ (kept : ℕ → Bool) (bus : ℕ → Bus) (first : Memory) where
       let wrap' = no_wrap (at + 4) n.mapped in
       let e8 : at + 4 + 4 ≡ at + 8 = omega arith in
       let dest : ((at + 4) % 2 ^ 32 + 4) % 2 ^ 32 ≡ at + 8 = ap (λ a. (a + 4) % 2 ^ 32) wrap ∙ wrap' ∙ e8 in
-      two c (branch (opposite t) at to) s s at (at + 8) k k l n (branch_fits (opposite t) (distance at to) (opposite_fits t fit) (word_field _)) (branch_gate (opposite t) (distance at to)) (branch_trap (opposite t) (distance at to) (state_at s at))
+      two c (branch (opposite t) at to) s s at (at + 8) k k l n (branch_fits (opposite t) (distance at to) (opposite_fits t fit) (word_field _)) (branch_stays (opposite t) (distance at to)) (branch_trap (opposite t) (distance at to) (state_at s at))
       (branch_after (opposite t) (distance at to) s at (bus c) false (fails t s.regs y) ∙ ap (in_slot s ((at + 4) % 2 ^ 32)) dest) (branch_seen (opposite t) (distance at to) (state_at s at) (bus c) s.seen)

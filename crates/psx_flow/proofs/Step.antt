@@ -20,7 +20,7 @@ use Rattle.psx_cpu.specs.Traps.{DataUse, data_use, is_aligned, misaligned, use_t
 use Rattle.psx_cpu.specs.Exceptions.{takes_interrupt}
 use Rattle.psx_cpu.specs.Guard.{guard_data, guard_instruction, guard_word, guard, is_branch, is_protected}
 use Rattle.psx_cpu.specs.Step.{Move, Goes, Reads, Writes, Stops, entered, after, executed, performed, passed, step}
-use Rattle.psx_flow.specs.Well.{is_gate}
+use Rattle.psx_flow.specs.Well.{enters_or_leaves}
 use Rattle.psx_flow.specs.Run.{Run, Access, accessed}
 use Rattle.psx_flow.specs.Plain.{Board, went, seen_by, seen_at, onward, plain_step, kernel_core}
 use Rattle.psx_flow.specs.Reaches.{keeps_word, Lies, Stands, Keeps}
@@ -104,14 +104,14 @@ gone : (b : Bool) (x y : Move) (next : Core) → went x ≡ Some next → went y
 gone true x y next h g = h
 gone false x y next h g = g
 
-executes : (k : Core) (bus : Bus) (i : Ins) → is_gate i ≡ false → went (executed k bus i) ≡ Some (after k bus i)
+executes : (k : Core) (bus : Bus) (i : Ins) → enters_or_leaves i ≡ false → went (executed k bus i) ≡ Some (after k bus i)
 executes k bus (LW s t imm) g = gone (port (place (data_address k.processor.context s imm))) (Reads (after k bus (LW s t imm)) (place (data_address k.processor.context s imm)) bus.value) (Goes (after k bus (LW s t imm))) _ refl refl
 executes k bus (SW s t imm) g = gone (port (place (data_address k.processor.context s imm))) (Writes (after k bus (SW s t imm)) (place (data_address k.processor.context s imm)) (register k.processor.context.regs t.0)) (Goes (after k bus (SW s t imm))) _ refl refl
 executes k bus RFE g = absurd (true≢false g)
 executes k bus _ g = refl
 
 -- a state on the kernel's side steps by the effect of the instruction at pc
-pub core_steps : (x : State) (bus : Bus) (i : Ins) → x.context.pc % 4 ≡ 0 → x.cop0.sr % 2 ≡ 0 → instruction_of (read_word x.bytes x.context.pc) ≡ Some i → is_gate i ≡ false → trap_of i x.context ≡ None
+pub core_steps : (x : State) (bus : Bus) (i : Ins) → x.context.pc % 4 ≡ 0 → x.cop0.sr % 2 ≡ 0 → instruction_of (read_word x.bytes x.context.pc) ≡ Some i → enters_or_leaves i ≡ false → trap_of i x.context ≡ None
     → went (step (kernel_core x) bus) ≡ Some (kernel_core (effect i x bus))
 unfolding step
 core_steps x bus i even off is g none =
@@ -127,7 +127,7 @@ core_steps x bus i even off is g none =
 abbrev pub standing : State → List Access → ℕ → Board
 standing x q c = record { core = kernel_core x; seen = q; clock = c }
 
-pub step_is : (bus : ℕ → Bus) (x : State) (q : List Access) (c : ℕ) (i : Ins) → x.context.pc % 4 ≡ 0 → x.cop0.sr % 2 ≡ 0 → instruction_of (read_word x.bytes x.context.pc) ≡ Some i → is_gate i ≡ false → trap_of i x.context ≡ None
+pub step_is : (bus : ℕ → Bus) (x : State) (q : List Access) (c : ℕ) (i : Ins) → x.context.pc % 4 ≡ 0 → x.cop0.sr % 2 ≡ 0 → instruction_of (read_word x.bytes x.context.pc) ≡ Some i → enters_or_leaves i ≡ false → trap_of i x.context ≡ None
     → plain_step bus (standing x q c) ≡ Some (standing (effect i x (bus c)) (accessed i x (bus c) q) (suc c))
 step_is bus x q c i even off is g none =
     let b = standing x q c in

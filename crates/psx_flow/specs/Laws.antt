@@ -6,7 +6,7 @@ use Rattle.psx_cpu.specs.Processor.{State, Bus}
 use Rattle.psx_cpu.specs.Effect.{effect}
 use Rattle.psx_cpu.specs.Traps.{trap_of}
 use Rattle.psx_flow.specs.Tree.{Tree, Stop, Do, size}
-use Rattle.psx_flow.specs.Well.{is_gate}
+use Rattle.psx_flow.specs.Well.{enters_or_leaves}
 use Rattle.psx_flow.specs.Spaced.{touches}
 use Rattle.psx_flow.specs.Run.{Run, Access, accessed, state_at, spares}
 use Rattle.psx_flow.specs.Meets.{Meets, calls}
@@ -29,7 +29,7 @@ pub record DoesSettled (i : Ins) (x : State) (bus : Bus) : Type 0 where
   pub trap : trap_of i x.context ≡ trap_of i (settle x.context)
   pub access : (q : List Access) → accessed i x bus q ≡ accessed i (settled_state x) bus q
   pub settled : settled_state (effect i x bus) ≡ settled_state (effect i (settled_state x) bus)
-  pub same : is_gate i ≡ false → effect i x bus ≡ effect i (settled_state x) bus
+  pub same : enters_or_leaves i ≡ false → effect i x bus ≡ effect i (settled_state x) bus
 
 abbrev pub LoadsSettle : Type 0
 LoadsSettle = (i : Ins) (x : State) (bus : Bus) → LeavesAlone i x.context.pending → DoesSettled i x bus
