@@ -6,7 +6,7 @@ use Rattle.std.proofs.lemmas.Bool.{cases_Bool, false≢true, eqb-true}
 use Rattle.psx_cpu.specs.Words.{truth}
 use Rattle.psx_flow.specs.declared.kinds.Tested.{Tested}
 use Rattle.psx_flow.specs.declared.kinds.Tested.TheVariants.{ReadByte, WriteByte, ReadWord, WriteWord}
-use Rattle.psx_flow.specs.Tested.{tree}
+use Rattle.psx_flow.proofs.TestedTrees.{tree}
 use Rattle.psx_flow.proofs.Log.{User, UserByte, UserWord, user_byte_then, user_word_then, user_byte_mono, user_word_mono}
 use Rattle.psx_flow.proofs.Users.{sum_of, ranges, ranges_word, sort_user, sort_user_word}
 use Rattle.psx_flow.proofs.Sym.{sound, user_above, word_above}

@@ -21,3 +21,4 @@ pub mod Accesses
 pub mod Serves
 pub mod Settling
 pub mod Follow
+pub mod TestedTrees

@@ -1,44 +1,23 @@
--- The listings that read and write user memory, or tell that an address isn't user memory.
+-- What the listings do that read and write user memory, or tell that an address isn't user memory. User memory is that of the memory map (PSX-SPX, Memory Map): main memory behind the kernel's 64 KB, and the scratchpad.
 use Rattle.std.specs.Prelude.{◌≡◌, ℕ, ◌+◌, ◌%◌, ◌^◌, ◌<◌, ◌≤◌, Bool, true, false, ◌&&◌, nat_eq, List, [], ◌∷◌}
-use Rattle.psx_ins.specs.declared.reg.Reg.{Reg}
-use Rattle.psx_ins.specs.declared.ins.Ins.TheVariants.{SLL, ADDU, SUBU, AND, SLTU, SLTIU, LUI, LBU, LW, SB, SW}
 use Rattle.psx_base.specs.Memory.{Memory, byte, word, put_byte, put_word}
 use Rattle.psx_base.specs.Registers.{Registers}
 use Rattle.psx_base.specs.Addresses.{place, user}
 use Rattle.psx_flow.specs.declared.kinds.Tested.{Tested}
 use Rattle.psx_flow.specs.declared.kinds.Tested.TheVariants.{ReadByte, WriteByte, ReadWord, WriteWord}
-use Rattle.psx_flow.specs.declared.node.Test.TheVariants.{Differ}
-use Rattle.psx_flow.specs.Tree.{Tree, Stop, Do, When, GoTo}
-use Rattle.psx_flow.specs.Lowered.{nop}
+use Rattle.psx_flow.specs.declared.listings.TheConstants.{READ_BYTE, WRITE_BYTE, READ_WORD, WRITE_WORD}
+use Rattle.psx_flow.specs.declared.node.Node.{Node}
+use Rattle.psx_flow.specs.Tree.{Tree}
 use Rattle.psx_flow.specs.Run.{Run, Access, Load, Store}
 use Rattle.psx_flow.specs.Kernel.{kernel_words}
 use Rattle.psx_flow.specs.Meets.{Meets, calls}
 
-abbrev pub r : ℕ → Reg
-r n = record { 0 = n }
-
--- r10 becomes 1 where r8 is a user address, and else 0
-abbrev pub test_user : Tree → Tree
-test_user k =
-    Do (LUI (r 11) 0x0001) (Do (SUBU (r 8) (r 11) (r 11)) (Do (LUI (r 12) 0x001F) (Do (SLTU (r 11) (r 12) (r 10))
-    (Do (LUI (r 11) 0x8001) (Do (SUBU (r 8) (r 11) (r 11)) (Do (SLTU (r 11) (r 12) (r 11)) (Do (ADDU (r 10) (r 11) (r 10))
-    (Do (LUI (r 11) 0xA001) (Do (SUBU (r 8) (r 11) (r 11)) (Do (SLTU (r 11) (r 12) (r 11)) (Do (ADDU (r 10) (r 11) (r 10))
-    (Do (LUI (r 11) 0x1F80) (Do (SUBU (r 8) (r 11) (r 11)) (Do (SLTIU (r 11) (r 11) 1024) (Do (ADDU (r 10) (r 11) (r 10))
-    (Do (LUI (r 11) 0x9F80) (Do (SUBU (r 8) (r 11) (r 11)) (Do (SLTIU (r 11) (r 11) 1024) (Do (ADDU (r 10) (r 11) (r 10)) k)))))))))))))))))))
-
--- r10 becomes 0 where r8 isn't a multiple of 4
-abbrev pub test_word : Tree → Tree
-test_word k = Do (SLL (r 8) (r 11) 30) (Do (SLTIU (r 11) (r 11) 1) (Do (AND (r 10) (r 11) (r 10)) k))
-
--- an access where r10 isn't 0, and back
-abbrev pub where_good : Tree → Tree
-where_good made = When (Differ (r 10) (r 0)) made (GoTo (r 31) Stop)
-
-abbrev pub tree : Tested → Tree
-tree ReadByte = test_user (where_good (Do (LBU (r 8) (r 9) 0) (Do nop Stop)))
-tree WriteByte = test_user (where_good (Do (SB (r 8) (r 9) 0) Stop))
-tree ReadWord = test_user (test_word (where_good (Do (LW (r 8) (r 9) 0) (Do nop Stop))))
-tree WriteWord = test_user (test_word (where_good (Do (SW (r 8) (r 9) 0) Stop)))
+-- the listing of each access
+abbrev pub listing : Tested → List Node
+listing ReadByte = READ_BYTE
+listing WriteByte = WRITE_BYTE
+listing ReadWord = READ_WORD
+listing WriteWord = WRITE_WORD
 
 -- whether an access is made at an address
 abbrev pub is_good : Tested → ℕ → Bool
@@ -86,6 +65,6 @@ pub record Tries (kind : Tested) (s : Run) (to : ℕ) (e : Run) : Type 0 where
   pub cop0 : e.cop0 ≡ s.cop0
   pub within : e.passed ≤ s.passed + 28
 
--- from each state, of which r8 is a word, the listing does this, at any address, and no more
-abbrev pub Serves : Tested → Type 0
-Serves kind = (at : ℕ) (s : Run) → s.regs.r8 < 2 ^ 32 → Meets kernel_words (calls kernel_words []) (tree kind) at (λ _. ⊥) (λ to e. Tries kind s to e) s
+-- from each state, of which r8 is a word, and at any address the listing does this, and no more
+abbrev pub Serves : Tested → Tree → Type 0
+Serves kind T = (at : ℕ) (s : Run) → s.regs.r8 < 2 ^ 32 → Meets kernel_words (calls kernel_words []) T at (λ _. ⊥) (λ to e. Tries kind s to e) s

@@ -1,9 +1,9 @@
 //! The listings by which the kernel reads and writes user memory. They are called: the address is in r8, the value in r9; r10 becomes 1 where the access is made, else 0.
-ghost use Rattle.std.specs.Prelude.{◌≡◌, [], IsTrue};
-ghost use Rattle.psx_flow.specs.Tree.{flat};
+ghost use Rattle.std.specs.Prelude.{◌≡◌, IsTrue, IfSome};
+ghost use Rattle.psx_flow.specs.Reading.{tree_of};
 ghost use Rattle.psx_flow.specs.Well.{is_well};
 ghost use Rattle.psx_flow.specs.Spaced.{is_spaced};
-ghost use Rattle.psx_flow.specs.Tested.{tree, Serves};
+ghost use Rattle.psx_flow.specs.Tested.{listing, Serves};
 
 use crate::kinds::Tested;
 use crate::node::{Node, Test};
@@ -96,12 +96,11 @@ pub const WRITE_WORD: [Node; 27] = user_word_then![
 
 /// The listing of a tested access. It ends by a jump to the address in r31. Where the address in r8 is user memory, for a word also a multiple of 4, it makes the access,
 /// which is no other, and r10 becomes 1; else it makes none, and r10 becomes 0. It changes r10, r11, r12 and, where it reads, r9; nothing else.
-#[tactic(auto, using(crate::proofs::Serves::serves))]
 pub fn tested(kind: Tested) -> &'static [Node]
-    ensures listing { result.now ≡ flat (tree kind) [] }
+    ensures listing { result.now ≡ listing kind }
     ensures well { IsTrue (is_well result.now) }
     ensures spaced { IsTrue (is_spaced result.now) }
-    ensures serves { Serves kind }
+    ensures serves { IfSome (tree_of result.now) (λ tree. Serves kind tree) }
 {
     match kind {
         Tested::ReadByte => &READ_BYTE,
