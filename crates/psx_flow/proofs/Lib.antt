@@ -22,3 +22,4 @@ pub mod Serves
 pub mod Settling
 pub mod Follow
 pub mod TestedTrees
+pub mod Knows
