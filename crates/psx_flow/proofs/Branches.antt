@@ -75,6 +75,7 @@ goes_back at to n pos h f small =
   where
     below : (n : ℕ) → 0 < n → (2 ^ 16 - n) % 2 ^ 16 ≡ 2 ^ 16 - n
     below n pos = omega arith
+
     wraps : (n : ℕ) → n ≤ 2 ^ 15 → to + 4 * n ≡ at + 4 → to < 2 ^ 32 → (at + 4 + (2 ^ 16 - n + (2 ^ 32 - 2 ^ 16)) * 4) % 2 ^ 32 ≡ to
     wraps n h f small = omega arith
 
@@ -88,10 +89,12 @@ goes_to at to low even even' h =
   where
     order : (a b : ℕ) → (a ≤ b) ⊎ (b < a)
     order a b = ⊎_elim (λ e. inl (leb-true a b e)) (λ e. inr (grind arith)) (cases_Bool (nat_le a b))
+
     ahead : at + 4 ≤ to + 2 ^ 17 → to < at + 4 + 2 ^ 17 → at + 4 ≤ to → (at + 4 + sign_extended (distance at to) * 4) % 2 ^ 32 ≡ to
     ahead a b f =
         let e : at + 4 + 4 * ((to - (at + 4)) / 4) ≡ to = omega arith in
         ap (λ x. (at + 4 + sign_extended (distance at x) * 4) % 2 ^ 32) (sym e) ∙ goes_fore at ((to - (at + 4)) / 4) (omega arith) (omega arith) ∙ e
+
     behind : at + 4 ≤ to + 2 ^ 17 → to < at + 4 + 2 ^ 17 → to < at + 4 → (at + 4 + sign_extended (distance at to) * 4) % 2 ^ 32 ≡ to
     behind a b f = goes_back at to ((at + 4 - to) / 4) (omega arith) (omega arith) (omega arith) (omega arith)
 
@@ -101,6 +104,7 @@ jumps_to at to h = let p = both (nat_eq (to % 4) 0) (nat_eq (to / 2 ^ 28) ((at +
   where
     region : (to h : ℕ) → to % 4 ≡ 0 → to / 2 ^ 28 ≡ h → h * 2 ^ 28 + to / 4 % 2 ^ 26 * 4 ≡ to
     region to h e f = omega arith
+
     here : to % 4 ≡ 0 → to / 2 ^ 28 ≡ (at + 4) % 2 ^ 32 / 2 ^ 28 → (at + 4) % 2 ^ 32 / 2 ^ 28 * 2 ^ 28 + to / 4 % 2 ^ 26 * 4 ≡ to
     here e f = region to ((at + 4) % 2 ^ 32 / 2 ^ 28) e f
 
@@ -112,7 +116,6 @@ resting y pc = record { context = record { regs = y.context.regs; pending = y.co
 -- an Op goes on to the next word
 pub op_after : (i : Ins) (s : Run) (at : ℕ) (bus : Bus) → is_branch i ≡ false → enters_or_leaves i ≡ false → (at + 4) % 2 ^ 32 ≡ at + 4
     → effect i (state_at s at) bus ≡ (let y = effect i (state_at s at) bus in record { context = record { regs = y.context.regs; pending = y.context.pending; pc = at + 4; next = (at + 4 + 4) % 2 ^ 32; in_slot = false }; cop0 = y.cop0; bytes = y.bytes })
-
 op_after (JR _) s at bus h g e = absurd (true≢false h)
 op_after (JALR _ _) s at bus h g e = absurd (true≢false h)
 op_after (SYSCALL _) s at bus h g e = absurd (true≢false g)

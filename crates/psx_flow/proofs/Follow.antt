@@ -41,7 +41,7 @@ agree (suc k) x a b h =
     let e : a x.clock ≡ b x.clock = h x.clock (omega arith) (omega arith) in
     ap (λ u. on (onward x u (went (step x.core u))) (steps a k)) e
     ∙ on_same x (b x.clock) (went (step x.core (b x.clock))) (steps a k) (steps b k)
-      (λ core. agree k (record { core = core; seen = seen_at x.core (b x.clock) x.seen; clock = suc x.clock }) a b (λ n l m. h n (omega arith) (omega arith)))
+    (λ core. agree k (record { core = core; seen = seen_at x.core (b x.clock) x.seen; clock = suc x.clock }) a b (λ n l m. h n (omega arith) (omega arith)))
 
 -- the first answers up to a count, and then the others
 abbrev before : ℕ → (ℕ → Bus) → (ℕ → Bus) → ℕ → Bus

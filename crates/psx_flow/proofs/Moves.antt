@@ -163,7 +163,7 @@ module _ (kept : ℕ → Bool) (bus : ℕ → Bus) (first : Memory) where
   -- an Op
   pub one : (c : ℕ) (i : Ins) (s : Run) (raw : Registers) (p : Option (ℕ × ℕ)) (at : ℕ) (T : Tree) → settled raw p ≡ s.regs → clear p (Do i T) ≡ true → Keeps kept first s → LiesAs kept first at i → is_op i ≡ true → trap_of i (state_at s at).context ≡ None
       → Moves 1 (standing (pending_at s raw p at) s.seen c)
-        (let y = effect i (state_at s at) (bus c) in standing (pending_at (done i s at (bus c)) y.context.regs y.context.pending (at + 4)) (done i s at (bus c)).seen (c + 1))
+      (let y = effect i (state_at s at) (bus c) in standing (pending_at (done i s at (bus c)) y.context.regs y.context.pending (at + 4)) (done i s at (bus c)).seen (c + 1))
   one c i s raw p at T e clr k l w none =
       let u = both (not (is_branch i || enters_or_leaves i)) (fits_fields i) w in
       let o = neither (is_branch i) (enters_or_leaves i) (unsaid _ u.0) in

@@ -109,8 +109,10 @@ main_sort p h = λ i. sort_by (not_code p h i) (not_kernel p h i) (is_user p h i
   where
     not_code : (p : ℕ) → user_main p ≡ true → nat_lt p 0xB000 ≡ false
     not_code p h = grind arith
+
     not_kernel : (p : ℕ) → user_main p ≡ true → nat_lt p 0x10000 ≡ false
     not_kernel p h = grind arith
+
     is_user : (p : ℕ) → user_main p ≡ true → in_user p ≡ true
     is_user p h = grind arith
 
@@ -119,8 +121,10 @@ pad_sort p h = λ i. sort_by (not_code p h i) (not_kernel p h i) (is_user p h i)
   where
     not_code : (p : ℕ) → scratchpad p ≡ true → nat_lt p 0xB000 ≡ false
     not_code p h = grind arith
+
     not_kernel : (p : ℕ) → scratchpad p ≡ true → nat_lt p 0x10000 ≡ false
     not_kernel p h = grind arith
+
     is_user : (p : ℕ) → scratchpad p ≡ true → in_user p ≡ true
     is_user p h = grind arith
 
@@ -139,6 +143,7 @@ low_bits a = shown (a * 1073741824 % 4294967296) (a % 4) (scaled a)
   where
     scaled : (a : ℕ) → a * 1073741824 % 4294967296 ≡ a % 4 * 1073741824
     scaled a = omega arith
+
     shown : (x y : ℕ) → x ≡ y * 1073741824 → nat_lt x 1 ≡ nat_eq y 0
     shown x y e = grind arith
 

@@ -4,23 +4,19 @@ ghost use Rattle.psx_flow.specs.Laws.{LoadsSettle, WordsRun, RunsAreMade, OpsRun
 /// Where an instruction neither reads nor writes the register of the pending load, it does what it does where that load is settled.
 pub fn loads_settle()
     ensures { LoadsSettle }
-{
-}
+{}
 
 /// Where a listing's runs end whatever the bus brings, its words, fetched and run by the processor's step, come to an end by one of its runs, in at most four steps for each node.
 pub fn words_run()
     ensures { WordsRun }
-{
-}
+{}
 
 /// Each run of a listing is made by its words, for some answers of the bus.
 pub fn runs_are_made()
     ensures { RunsAreMade }
-{
-}
+{}
 
 /// Each instruction that doesn't trap has a run.
 pub fn ops_run()
     ensures { OpsRun }
-{
-}
+{}

@@ -5,12 +5,12 @@
 
 mod emit;
 mod fit;
+pub mod kinds;
 pub mod law;
+pub mod listings;
 mod load;
 mod lowering;
 mod nesting;
-pub mod kinds;
-pub mod listings;
 pub mod node;
 mod reading;
 mod sizing;
@@ -18,9 +18,9 @@ mod spacing;
 #[cfg(test)]
 mod tests;
 
+pub use kinds::Tested;
 pub use lowering::lower;
 pub use nesting::well;
-pub use kinds::Tested;
 pub use node::{Node, Test};
 pub use reading::reading_law;
 pub use sizing::size_of;

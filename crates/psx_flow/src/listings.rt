@@ -11,11 +11,17 @@ use psx_ins::ins::Ins;
 use psx_ins::reg::Reg;
 
 const R0: Reg = Reg(0);
+
 const R8: Reg = Reg(8);
+
 const R9: Reg = Reg(9);
+
 const R10: Reg = Reg(10);
+
 const R11: Reg = Reg(11);
+
 const R12: Reg = Reg(12);
+
 const R31: Reg = Reg(31);
 
 // A listing that begins with the test of the address in r8: r10 becomes 1 where it is user memory, else 0.
@@ -66,7 +72,11 @@ const NOP: Node = Node::Op(Ins::SLL { t: R0, d: R0, n: 0 });
 
 pub const READ_BYTE: [Node; 25] = user_then![
     Node::If(Test::Differ(R10, R0)),
-    Node::Op(Ins::LBU { s: R8, t: R9, imm: 0 }),
+    Node::Op(Ins::LBU {
+        s: R8,
+        t: R9,
+        imm: 0
+    }),
     NOP,
     Node::End,
     Node::JumpTo(R31),
@@ -74,14 +84,22 @@ pub const READ_BYTE: [Node; 25] = user_then![
 
 pub const WRITE_BYTE: [Node; 24] = user_then![
     Node::If(Test::Differ(R10, R0)),
-    Node::Op(Ins::SB { s: R8, t: R9, imm: 0 }),
+    Node::Op(Ins::SB {
+        s: R8,
+        t: R9,
+        imm: 0
+    }),
     Node::End,
     Node::JumpTo(R31),
 ];
 
 pub const READ_WORD: [Node; 28] = user_word_then![
     Node::If(Test::Differ(R10, R0)),
-    Node::Op(Ins::LW { s: R8, t: R9, imm: 0 }),
+    Node::Op(Ins::LW {
+        s: R8,
+        t: R9,
+        imm: 0
+    }),
     NOP,
     Node::End,
     Node::JumpTo(R31),
@@ -89,7 +107,11 @@ pub const READ_WORD: [Node; 28] = user_word_then![
 
 pub const WRITE_WORD: [Node; 27] = user_word_then![
     Node::If(Test::Differ(R10, R0)),
-    Node::Op(Ins::SW { s: R8, t: R9, imm: 0 }),
+    Node::Op(Ins::SW {
+        s: R8,
+        t: R9,
+        imm: 0
+    }),
     Node::End,
     Node::JumpTo(R31),
 ];
@@ -107,5 +129,28 @@ pub fn tested(kind: Tested) -> &'static [Node]
         Tested::WriteByte => &WRITE_BYTE,
         Tested::ReadWord => &READ_WORD,
         Tested::WriteWord => &WRITE_WORD,
+    }
+}
+
+#[cfg(test)]
+mod tests {
+    use super::*;
+    use crate::law::{loads_settle, ops_run, runs_are_made, words_run};
+    use crate::size_of;
+
+    #[test]
+    fn four_listings_have_their_words(rt: HostRuntime) {
+        assert_eq!(rt; size_of(tested(Tested::ReadByte)), 26);
+        assert_eq!(rt; size_of(tested(Tested::WriteByte)), 25);
+        assert_eq!(rt; size_of(tested(Tested::ReadWord)), 29);
+        assert_eq!(rt; size_of(tested(Tested::WriteWord)), 28);
+    }
+
+    #[test]
+    fn laws_do_nothing() {
+        loads_settle();
+        words_run();
+        runs_are_made();
+        ops_run();
     }
 }
