@@ -1,10 +1,9 @@
 -- The listings of `tested` do what their callers rest on.
 use Rattle.std.proofs.Common.{zero}
-use Rattle.psx_flow.proofs.Kit.{◌≡◌, ℕ, suc, ◌+◌, ◌*◌, ◌%◌, ◌^◌, ◌<◌, ◌≤◌, List, [], ◌∷◌, true, false, refl, sym, ap, ◌∙◌, subst, arith, ⊎_elim, Memory, Registers, Cop0, place, user, byte, word, Goal, Calls, calls, Access, Load, Store, Run, Tree, Meets, Fair, fair, Part, Anew, Calling, run, Entry, Sorted, applied, ended, kernel_words, word_sort, byte_sort}
+use Rattle.psx_flow.proofs.Kit.{◌≡◌, ℕ, suc, ◌+◌, ◌%◌, ◌^◌, ◌<◌, ◌≤◌, List, ◌∷◌, true, false, refl, ap, ◌∙◌, arith, ⊎_elim, Memory, Registers, Cop0, place, user, Goal, Calls, Access, Load, Store, Meets, Fair, Part, Anew, run, Entry, Sorted, ended, kernel_words, word_sort}
 use Rattle.std.specs.Prelude.{Bool, nat_eq, ◌&&◌}
-use Rattle.std.proofs.lemmas.Bool.{cases_Bool, false≢true, eqb-true}
+use Rattle.std.proofs.lemmas.Bool.{cases_Bool, eqb-true}
 use Rattle.psx_cpu.specs.Words.{truth}
-use Rattle.psx_flow.specs.declared.kinds.Tested.{Tested}
 use Rattle.psx_flow.specs.declared.kinds.Tested.TheVariants.{ReadByte, WriteByte, ReadWord, WriteWord}
 use Rattle.psx_flow.proofs.TestedTrees.{tree}
 use Rattle.psx_flow.proofs.Log.{User, UserByte, UserWord, user_byte_then, user_word_then, user_byte_mono, user_word_mono}

@@ -1,13 +1,12 @@
 -- What an Op, a branch and a jump do to the place in the program.
-use Rattle.std.proofs.Common.{◌≡◌, ℕ, suc, ◌+◌, ◌-◌, ◌*◌, ◌/◌, ◌%◌, ◌^◌, ◌<◌, ◌≤◌, ◌⊎◌, inl, inr, List, Bool, true, false, None, refl, sym, ap, ◌∙◌, arith, ⊎_elim, eq-eqb, ne_eqb}
+use Rattle.std.proofs.Common.{◌≡◌, ℕ, ◌+◌, ◌-◌, ◌*◌, ◌/◌, ◌%◌, ◌^◌, ◌<◌, ◌≤◌, ◌⊎◌, inl, inr, List, Bool, true, false, None, refl, sym, ap, ◌∙◌, arith, ⊎_elim, eq-eqb, ne_eqb}
 use Rattle.std.specs.Prelude.{not, nat_eq, nat_lt, nat_le, ◌&&◌, ◌||◌, if◌then◌else◌}
 use Rattle.std.proofs.lemmas.Bool.{true≢false, false≢true, cases_Bool, eqb-true, ltb-true, leb-true, lt-ltb}
-use Rattle.psx_ins.specs.declared.reg.Reg.{Reg}
 use Rattle.psx_ins.specs.declared.ins.Ins.{Ins}
 use Rattle.psx_ins.specs.declared.ins.Ins.TheVariants.{JR, JALR, SYSCALL, BREAK, BLTZ, BGEZ, BLTZAL, BGEZAL, J, JAL, BEQ, BNE, BLEZ, BGTZ, RFE}
 use Rattle.psx_ins.specs.Words.{fits_fields}
 use Rattle.psx_base.specs.Memory.{is_mapped}
-use Rattle.psx_base.specs.Addresses.{place, is_mirrored, top, low}
+use Rattle.psx_base.specs.Addresses.{place, is_mirrored, low}
 use Rattle.psx_base.specs.Registers.{Registers, register}
 use Rattle.psx_cpu.specs.Words.{sign_extended}
 use Rattle.psx_cpu.specs.Processor.{State, Bus}
@@ -19,7 +18,7 @@ use Rattle.psx_flow.specs.declared.node.Test.{Test}
 use Rattle.psx_flow.specs.declared.node.Test.TheVariants.{Same, Differ, NotAbove, Above, Negative, NotNegative}
 use Rattle.psx_flow.specs.Well.{enters_or_leaves, is_register, test_fits}
 use Rattle.psx_flow.specs.Lowered.{opposite, branch_by, distance, in_reach, in_region}
-use Rattle.psx_flow.specs.Run.{Run, Access, accessed, state_at, done}
+use Rattle.psx_flow.specs.Run.{Run, Access, accessed, state_at}
 use Rattle.psx_flow.specs.Meets.{Holds}
 use Rattle.psx_flow.proofs.Step.{both}
 

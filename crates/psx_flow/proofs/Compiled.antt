@@ -1,7 +1,7 @@
 -- The words of a listing do what the listing says.
-use Rattle.std.proofs.Common.{◌≡◌, ℕ, zero, suc, ◌+◌, ◌*◌, ◌/◌, ◌%◌, ◌^◌, ◌<◌, ◌≤◌, ◌⊎◌, inl, inr, List, [], ◌∷◌, ◌++◌, Bool, true, false, cond, Option, Some, None, refl, sym, ap, ◌∙◌, subst, arith, ⊎_elim}
-use Rattle.std.specs.Prelude.{nat_eq, nat_lt, ◌&&◌}
-use Rattle.std.proofs.lemmas.Bool.{eqb-true, lt-ltb}
+use Rattle.std.proofs.Common.{◌≡◌, ℕ, zero, suc, ◌+◌, ◌*◌, ◌/◌, ◌%◌, ◌^◌, ◌<◌, ◌≤◌, ◌⊎◌, inl, inr, List, ◌∷◌, ◌++◌, Bool, true, Option, Some, None, refl, sym, ap, ◌∙◌, subst, arith, ⊎_elim}
+use Rattle.std.specs.Prelude.{nat_lt, ◌&&◌}
+use Rattle.std.proofs.lemmas.Bool.{lt-ltb}
 use Rattle.psx_ins.specs.declared.reg.Reg.{Reg}
 use Rattle.psx_ins.specs.declared.ins.Ins.{Ins}
 use Rattle.psx_ins.specs.declared.ins.Ins.TheVariants.{J, JAL, JR}
@@ -17,13 +17,13 @@ use Rattle.psx_flow.specs.Well.{is_op, is_register, test_fits, fits}
 use Rattle.psx_flow.specs.Spaced.{load_of}
 use Rattle.psx_flow.specs.Lowered.{opposite, always, nop, branch, target_of, code, in_reach, in_region, reaches}
 use Rattle.psx_flow.specs.Run.{Run, state_at, done}
-use Rattle.psx_flow.specs.Meets.{Holds, passing, linking, Goal, Calls, Turns, Meets, calls}
+use Rattle.psx_flow.specs.Meets.{Holds, passing, linking, Goal, Calls, Turns, Meets}
 use Rattle.psx_flow.specs.Plain.{Board, board}
 use Rattle.psx_flow.specs.Reaches.{Keeps, Reaches}
 use Rattle.psx_flow.proofs.Rules.{decided}
-use Rattle.psx_flow.proofs.Step.{LiesAs, StandsAs, both, standing}
+use Rattle.psx_flow.proofs.Step.{StandsAs, both, standing}
 use Rattle.psx_flow.proofs.Kept.{done_keeps}
-use Rattle.psx_flow.proofs.Room.{room, spaced, clear, begins, none_pending, clear_after}
+use Rattle.psx_flow.proofs.Room.{room, spaced, clear, none_pending, clear_after}
 use Rattle.psx_flow.proofs.Branches.{no_wrap, jumps_to, in_slot, opposite_fits}
 use Rattle.psx_flow.proofs.Moves.{stands_front, stands_at, pending_at, Moves, moves_on, From, reach_here, reach_then, reach_after, at_rest, one, two, taken, passed_by}
 

@@ -2,7 +2,7 @@
 use Rattle.std.proofs.Common.{◌≡◌, ℕ, zero, suc, ◌+◌, ◌-◌, ◌*◌, ◌/◌, ◌%◌, ◌^◌, Bool, true, false, ◌||◌, not, Some, None, List, [], ◌∷◌, refl, sym, ap, ◌∙◌}
 use Rattle.std.specs.Prelude.{nat_eq, nat_lt, nat_le, int_lt, ◌+ℤ◌, ◌-ℤ◌, ◌*ℤ◌, bit_and, bit_or, bit_xor, if◌then◌else◌}
 use Rattle.std.specs.Int.{w64, cast_unsigned}
-use Rattle.std.proofs.lemmas.Bool.{true≢false, false≢true}
+use Rattle.std.proofs.lemmas.Bool.{true≢false}
 use Rattle.psx_ins.specs.declared.reg.Reg.{Reg}
 use Rattle.psx_ins.specs.declared.ins.Ins.{Ins}
 use Rattle.psx_ins.specs.declared.ins.Ins.TheVariants.{SLL, SRL, SRA, SLLV, SRLV, SRAV, JR, JALR, SYSCALL, BREAK, MFHI, MTHI, MFLO, MTLO, MULT, MULTU, DIV, DIVU, ADD, ADDU, SUB, SUBU, AND, OR, XOR, NOR, SLT, SLTU, BLTZ, BGEZ, BLTZAL, BGEZAL, J, JAL, BEQ, BNE, BLEZ, BGTZ, ADDI, ADDIU, SLTI, SLTIU, ANDI, ORI, XORI, LUI, LB, LH, LWL, LW, LBU, LHU, LWR, SB, SH, SWL, SW, SWR, MFC0, MTC0, RFE}
@@ -12,10 +12,10 @@ use Rattle.psx_base.specs.Addresses.{place}
 use Rattle.psx_cpu.specs.Words.{signed, has_word, byte_extended, sign_extended, truth, shifted_signed, quotient, remainder, quotient_signed, remainder_signed}
 use Rattle.psx_cpu.specs.Processor.{State, Bus, Cop0}
 use Rattle.psx_cpu.specs.DataAccess.{read_byte, read_half, read_word, load_word, write_byte, write_half, write_word, round, loaded_left, loaded_right, stored_left, stored_right}
-use Rattle.psx_cpu.specs.Changes.{writes, hi_lo, memory_is, branch_target, jumps, links, loads, coming, cop0_read, cop0_written}
+use Rattle.psx_cpu.specs.Changes.{writes, hi_lo, memory_is, branch_target, jumps, links, loads, coming, cop0_written}
 use Rattle.psx_cpu.specs.Effect.{effect}
 use Rattle.psx_cpu.specs.Traps.{load_at, store_at, use_trap, raises, or_else, trap_of}
-use Rattle.psx_flow.specs.Spaced.{registers_of, is_among, touches}
+use Rattle.psx_flow.specs.Spaced.{registers_of, is_among}
 use Rattle.psx_flow.specs.Well.{enters_or_leaves}
 use Rattle.psx_flow.specs.Run.{Access, Load, Store, word_load, word_store, accessed}
 

@@ -1,5 +1,5 @@
 -- Where a listing meets a goal for all answers, its words come to it by a run of the relation.
-use Rattle.std.proofs.Common.{◌≡◌, ℕ, zero, suc, ◌+◌, ◌*◌, ◌^◌, ◌<◌, ◌⊎◌, inl, inr, List, [], ◌∷◌, Bool, true, false, cond, None, refl, sym, subst, ⊎_elim}
+use Rattle.std.proofs.Common.{◌≡◌, ℕ, zero, suc, ◌+◌, ◌*◌, ◌^◌, ◌<◌, inl, inr, List, [], ◌∷◌, Bool, true, false, cond, None, refl, sym, subst, ⊎_elim}
 use Rattle.std.specs.Prelude.{nat_eq}
 use Rattle.std.proofs.lemmas.Bool.{eqb-true}
 use Rattle.psx_ins.specs.declared.ins.Ins.{Ins}
@@ -7,10 +7,10 @@ use Rattle.psx_base.specs.Memory.{Memory}
 use Rattle.psx_base.specs.Context.{Context}
 use Rattle.psx_cpu.specs.Processor.{Bus}
 use Rattle.psx_flow.specs.declared.node.Test.{Test}
-use Rattle.psx_flow.specs.Tree.{Tree, Stop, Do, When, Choose, Loop, Visit, Go, GoTo, flat, size}
+use Rattle.psx_flow.specs.Tree.{Tree, Stop, Do, When, Choose, Loop, Visit, Go, GoTo, size}
 use Rattle.psx_flow.specs.Run.{Run, done, spares}
 use Rattle.psx_flow.specs.Meets.{passing, Goal, Calls, Turns, Meets, calls}
-use Rattle.psx_flow.specs.Reaches.{Keeps, IsPlaced, ArePlaced, Reaches}
+use Rattle.psx_flow.specs.Reaches.{Keeps, IsPlaced, ArePlaced}
 use Rattle.psx_flow.specs.Runs.{Ending, Falls, Goes, Then, TurnsOf, Called, Runs, called}
 use Rattle.psx_flow.specs.Plain.{board}
 use Rattle.psx_flow.proofs.Rules.{Fair, fair, meets_mono}

@@ -1,7 +1,7 @@
 -- Each run of a listing is made by its words, for some answers of the bus.
-use Rattle.std.proofs.Common.{◌≡◌, ℕ, zero, suc, ◌+◌, ◌-◌, ◌*◌, ◌/◌, ◌%◌, ◌^◌, ◌<◌, ◌≤◌, ◌⊎◌, inl, inr, List, [], ◌∷◌, ◌++◌, Bool, true, false, cond, Option, Some, None, refl, sym, ap, ◌∙◌, subst, arith, ⊎_elim, eq-eqb, ne_eqb}
+use Rattle.std.proofs.Common.{◌≡◌, ℕ, zero, suc, ◌+◌, ◌-◌, ◌*◌, ◌/◌, ◌%◌, ◌^◌, ◌<◌, ◌≤◌, List, [], ◌∷◌, ◌++◌, Bool, true, false, cond, Option, Some, None, refl, sym, ap, ◌∙◌, subst, arith, ⊎_elim}
 use Rattle.std.specs.Prelude.{nat_eq, nat_lt, ◌&&◌, if◌then◌else◌}
-use Rattle.std.proofs.lemmas.Bool.{eqb-true, lt-ltb, cases_Bool, cases_lt}
+use Rattle.std.proofs.lemmas.Bool.{eqb-true, lt-ltb}
 use Rattle.psx_ins.specs.declared.ins.Ins.{Ins}
 use Rattle.psx_ins.specs.declared.ins.Ins.TheVariants.{J, JAL, JR}
 use Rattle.psx_base.specs.Memory.{Memory}
@@ -18,7 +18,7 @@ use Rattle.psx_flow.specs.Lowered.{opposite, always, nop, branch, target_of, cod
 use Rattle.psx_flow.specs.Run.{Run, state_at, done, spares}
 use Rattle.psx_flow.specs.Meets.{Holds, passing, linking}
 use Rattle.psx_flow.specs.Runs.{Ending, Falls, Goes, Then, TurnsOf, Called, Runs, called}
-use Rattle.psx_flow.specs.Plain.{Board, went, onward, plain_step, seen_at, on, steps, board}
+use Rattle.psx_flow.specs.Plain.{Board, went, onward, seen_at, on, steps, board}
 use Rattle.psx_flow.specs.Reaches.{Keeps, IsPlaced, ArePlaced}
 use Rattle.psx_flow.proofs.Step.{StandsAs, as_code, both, standing}
 use Rattle.psx_flow.proofs.Kept.{done_keeps}

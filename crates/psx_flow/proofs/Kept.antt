@@ -1,10 +1,10 @@
 -- What an instruction keeps: the words of listings, and interrupts off.
-use Rattle.std.proofs.Common.{◌≡◌, ◌≢◌, ℕ, suc, ◌+◌, ◌/◌, ◌%◌, ◌^◌, ◌<◌, ◌≤◌, ◌⊎◌, Bool, true, false, refl, sym, ap, ◌∙◌, arith, ⊎_elim}
-use Rattle.std.specs.Prelude.{not, nat_eq, ◌&&◌, ◌||◌, if◌then◌else◌}
-use Rattle.std.proofs.lemmas.Bool.{false≢true, true≢false, cases_Bool, eqb-true}
+use Rattle.std.proofs.Common.{◌≡◌, ◌≢◌, ℕ, ◌+◌, ◌%◌, Bool, true, false, refl, sym, ap, ◌∙◌, arith, ⊎_elim}
+use Rattle.std.specs.Prelude.{not, nat_eq, ◌||◌, if◌then◌else◌}
+use Rattle.std.proofs.lemmas.Bool.{false≢true, cases_Bool, eqb-true}
 use Rattle.psx_ins.specs.declared.ins.Ins.{Ins}
 use Rattle.psx_ins.specs.declared.ins.Ins.TheVariants.{SB, SH, SWL, SW, SWR, MTC0}
-use Rattle.psx_base.specs.Memory.{Memory, byte, put_byte, put_half, put_word, is_writable}
+use Rattle.psx_base.specs.Memory.{Memory, byte, is_writable}
 use Rattle.psx_base.specs.Addresses.{place}
 use Rattle.psx_base.specs.Registers.{register}
 use Rattle.psx_ram.specs.Apart.{apart}

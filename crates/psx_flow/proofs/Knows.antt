@@ -1,10 +1,10 @@
 -- What a routine takes of the listings of `tested` that it calls, wherever they stand.
-use Rattle.psx_flow.proofs.Kit.{◌≡◌, ℕ, ◌+◌, ◌^◌, ◌<◌, List, [], ◌∷◌, true, false, refl, sym, subst, Memory, Registers, Cop0, Goal, Calls, calls, Access, Run, Tree, Meets, Fair, fair, Part, Anew, Calling, run, Entry, Sorted, kernel_words}
+use Rattle.psx_flow.proofs.Kit.{◌≡◌, ℕ, ◌^◌, ◌<◌, List, [], ◌∷◌, false, refl, sym, subst, Memory, Registers, Cop0, Goal, Calls, calls, Access, Run, Tree, Meets, Fair, fair, Part, Anew, Calling, run, Entry, kernel_words}
 use Rattle.std.proofs.Common.{cond, eq-eqb}
-use Rattle.std.specs.Prelude.{Bool, nat_eq}
+use Rattle.std.specs.Prelude.{nat_eq}
 use Rattle.psx_flow.specs.declared.kinds.Tested.TheVariants.{ReadByte, WriteByte, ReadWord, WriteWord}
 use Rattle.psx_flow.proofs.TestedTrees.{tree}
-use Rattle.psx_flow.proofs.Accesses.{ReadsByte, WritesByte, ReadsWord, WritesWord, Back, reads_byte, writes_byte, reads_word, writes_word}
+use Rattle.psx_flow.proofs.Accesses.{ReadsByte, WritesByte, ReadsWord, WritesWord, reads_byte, writes_byte, reads_word, writes_word}
 
 -- the addresses of the four listings
 pub record Places : Type 0 where

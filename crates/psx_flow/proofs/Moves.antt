@@ -1,12 +1,11 @@
 -- Some words of a listing, run: a board goes from one place to another.
-use Rattle.std.proofs.Common.{◌≡◌, ℕ, zero, suc, ◌+◌, ◌-◌, ◌*◌, ◌/◌, ◌%◌, ◌^◌, ◌<◌, ◌≤◌, ◌⊎◌, inl, inr, List, [], ◌∷◌, ◌++◌, length, length-append, Bool, true, false, Option, Some, None, refl, sym, ap, ◌∙◌, subst, arith, ⊎_elim}
-use Rattle.std.specs.Prelude.{nat_eq, ◌&&◌, ◌||◌, not, if◌then◌else◌}
-use Rattle.std.proofs.lemmas.Bool.{false≢true, true≢false}
+use Rattle.std.proofs.Common.{◌≡◌, ℕ, zero, suc, ◌+◌, ◌*◌, ◌%◌, ◌^◌, ◌<◌, ◌≤◌, List, [], ◌∷◌, ◌++◌, length, length-append, Bool, true, false, Option, Some, None, refl, sym, ap, ◌∙◌, subst, arith}
+use Rattle.std.specs.Prelude.{◌||◌, not}
+use Rattle.std.proofs.lemmas.Bool.{false≢true}
 use Rattle.psx_ins.specs.declared.ins.Ins.{Ins}
 use Rattle.psx_ins.specs.Words.{fits_fields}
 use Rattle.psx_ins.specs.Decoding.{instruction_of}
-use Rattle.psx_base.specs.Memory.{Memory, is_mapped}
-use Rattle.psx_base.specs.Addresses.{place}
+use Rattle.psx_base.specs.Memory.{Memory}
 use Rattle.psx_base.specs.Registers.{Registers}
 use Rattle.psx_base.specs.Context.{settled}
 use Rattle.psx_cpu.specs.Processor.{State, Bus}
@@ -19,15 +18,15 @@ use Rattle.psx_flow.specs.declared.node.Test.{Test}
 use Rattle.psx_flow.specs.Tree.{Tree, Stop, Do, When, Choose, Loop, Visit, Go, GoTo, size}
 use Rattle.psx_flow.specs.Well.{enters_or_leaves, is_op, test_fits}
 use Rattle.psx_flow.specs.Spaced.{registers_of, is_among, touches}
-use Rattle.psx_flow.specs.Lowered.{opposite, nop, always, branch_by, branch, distance, code, in_reach}
+use Rattle.psx_flow.specs.Lowered.{opposite, nop, always, branch, distance, code, in_reach}
 use Rattle.psx_flow.specs.Run.{Run, Access, accessed, state_at, done}
 use Rattle.psx_flow.specs.Meets.{Holds}
 use Rattle.psx_flow.specs.Plain.{Board, plain_step, on, steps, board}
 use Rattle.psx_flow.specs.Reaches.{Keeps, Reaches}
-use Rattle.psx_flow.proofs.Delay.{waiting, settled_one, delayed, delayed_trap, delayed_access, neither}
+use Rattle.psx_flow.proofs.Delay.{delayed, delayed_trap, delayed_access, neither}
 use Rattle.psx_flow.proofs.Step.{LiesAs, StandsAs, both, fetched, standing, step_is}
 use Rattle.psx_flow.proofs.Room.{clear}
-use Rattle.psx_flow.proofs.Branches.{no_wrap, mapped_below, goes_to, op_after, test, passes, fails, in_slot, branch_after, branch_trap, branch_stays, branch_seen, branch_fits, opposite_fits}
+use Rattle.psx_flow.proofs.Branches.{no_wrap, mapped_below, goes_to, op_after, passes, fails, in_slot, branch_after, branch_trap, branch_stays, branch_seen, branch_fits, opposite_fits}
 
 -- ---- where words stand
 

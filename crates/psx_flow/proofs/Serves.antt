@@ -1,9 +1,9 @@
 -- Each listing of `tested` does what is written of it.
-use Rattle.psx_flow.proofs.Kit.{◌≡◌, ℕ, ◌^◌, ◌<◌, ◌≤◌, [], true, false, refl, sym, ◌∙◌, subst, arith, Run, Meets, calls, kernel_words, Part, run, fair, user}
+use Rattle.psx_flow.proofs.Kit.{ℕ, [], refl, sym, ◌∙◌, subst, arith, Run, Meets, calls, kernel_words, Part, run, fair}
 use Rattle.std.proofs.lemmas.Bool.{false≢true}
 use Rattle.psx_flow.specs.declared.kinds.Tested.{Tested}
 use Rattle.psx_flow.specs.declared.kinds.Tested.TheVariants.{ReadByte, WriteByte, ReadWord, WriteWord}
-use Rattle.psx_flow.specs.Tested.{is_good, Tries, Serves}
+use Rattle.psx_flow.specs.Tested.{Tries, Serves}
 use Rattle.psx_flow.proofs.TestedTrees.{tree}
 use Rattle.psx_flow.proofs.Rules.{meets_mono}
 use Rattle.psx_flow.proofs.Sym.{anew}

@@ -6,10 +6,8 @@ use Rattle.psx_ins.specs.declared.ins.Ins.{Ins}
 use Rattle.psx_ins.specs.declared.ins.Ins.TheVariants.{SYSCALL, BREAK, RFE}
 use Rattle.psx_base.specs.Memory.{Memory}
 use Rattle.psx_base.specs.Registers.{Registers}
-use Rattle.psx_base.specs.Context.{settle}
 use Rattle.psx_cpu.specs.Processor.{State, Bus, Cop0}
 use Rattle.psx_cpu.specs.Effect.{effect}
-use Rattle.psx_flow.specs.Well.{enters_or_leaves}
 use Rattle.psx_flow.specs.Spaced.{registers_of, is_among, touches}
 use Rattle.psx_flow.specs.Laws.{LeavesAlone, settled_state, DoesSettled}
 use Rattle.psx_flow.proofs.Delay.{waiting, settled_one, delayed, delayed_trap, delayed_access, neither}

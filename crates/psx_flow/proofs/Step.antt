@@ -1,19 +1,19 @@
 -- One instruction of a listing, by the word that stands at pc: the plain step of the processor.
-use Rattle.std.proofs.Common.{◌≡◌, ℕ, suc, ◌+◌, ◌-◌, ◌*◌, ◌/◌, ◌%◌, ◌^◌, ◌<◌, ◌≤◌, List, [], ◌∷◌, map, Bool, true, false, Option, Some, None, refl, sym, ap, ◌∙◌, arith, ⊎_elim, eq-eqb, ne_eqb}
-use Rattle.std.specs.Prelude.{not, nat_eq, ◌&&◌, ◌||◌, is_some, if◌then◌else◌}
-use Rattle.std.proofs.lemmas.Bool.{true≢false, false≢true, cases_Bool}
+use Rattle.std.proofs.Common.{◌≡◌, ℕ, suc, ◌+◌, ◌*◌, ◌/◌, ◌%◌, ◌^◌, List, [], ◌∷◌, map, Bool, true, false, Option, Some, None, refl, ap, ◌∙◌, arith, eq-eqb, ne_eqb}
+use Rattle.std.specs.Prelude.{nat_eq, ◌&&◌, if◌then◌else◌}
+use Rattle.std.proofs.lemmas.Bool.{true≢false, false≢true}
 use Rattle.psx_ins.specs.declared.ins.Ins.{Ins}
 use Rattle.psx_ins.specs.declared.ins.Ins.TheVariants.{LW, SW, RFE}
 use Rattle.psx_ins.specs.Words.{word as word_of, fits_fields}
 use Rattle.psx_ins.specs.Decoding.{instruction_of}
 use Rattle.psx_ins.proofs.Decodes.{decodes}
 use Rattle.psx_base.specs.declared.stop.Stop.TheVariants.{Protected, SlotBranch}
-use Rattle.psx_base.specs.Memory.{Memory, byte, word, is_mapped}
-use Rattle.psx_base.specs.Addresses.{place, user, gate_of}
+use Rattle.psx_base.specs.Memory.{Memory, word, is_mapped}
+use Rattle.psx_base.specs.Addresses.{place}
 use Rattle.psx_base.specs.PortAddresses.{port}
 use Rattle.psx_base.specs.Registers.{register}
 use Rattle.psx_base.specs.Context.{Context}
-use Rattle.psx_cpu.specs.Processor.{Core, State, Bus, Trap, Processor, state_of}
+use Rattle.psx_cpu.specs.Processor.{Core, State, Bus, Trap, Processor}
 use Rattle.psx_cpu.specs.DataAccess.{data_address, read_word}
 use Rattle.psx_cpu.specs.Effect.{effect}
 use Rattle.psx_cpu.specs.Traps.{DataUse, data_use, is_aligned, misaligned, use_trap, own_trap, or_else, trap_of}
@@ -22,7 +22,7 @@ use Rattle.psx_cpu.specs.Guard.{guard_data, guard_instruction, guard_word, guard
 use Rattle.psx_cpu.specs.Step.{Move, Goes, Reads, Writes, Stops, entered, after, executed, performed, passed, step}
 use Rattle.psx_flow.specs.Well.{enters_or_leaves}
 use Rattle.psx_flow.specs.Run.{Run, Access, accessed}
-use Rattle.psx_flow.specs.Plain.{Board, went, seen_by, seen_at, onward, plain_step, kernel_core}
+use Rattle.psx_flow.specs.Plain.{Board, went, seen_by, onward, plain_step, kernel_core}
 use Rattle.psx_flow.specs.Reaches.{keeps_word, Lies, Stands, Keeps}
 
 -- ---- the word at an address

@@ -1,12 +1,12 @@
 -- Symbolic execution: what a listing asks of a state whose registers are a record written out and whose stores are a log, computed in one go.
-use Rattle.std.proofs.Common.{◌≡◌, ℕ, suc, ◌+◌, ◌-◌, ◌*◌, ◌/◌, ◌%◌, ◌^◌, ◌<◌, ◌≤◌, ◌⊎◌, List, ◌∷◌, Bool, true, false, None, Some, refl, sym, ap, ◌∙◌, subst, arith, ⊎_elim}
+use Rattle.std.proofs.Common.{◌≡◌, ℕ, suc, ◌+◌, ◌-◌, ◌*◌, ◌/◌, ◌%◌, ◌^◌, ◌<◌, ◌≤◌, ◌⊎◌, List, ◌∷◌, Bool, true, false, None, Some, refl, sym, ap, subst, arith, ⊎_elim}
 use Rattle.std.specs.Prelude.{nat_lt, nat_eq, int_lt, ◌*ℤ◌, bit_and, bit_or, bit_xor, not, ◌&&◌, ◌||◌, if◌then◌else◌}
 use Rattle.std.specs.Int.{w64, cast_unsigned}
 use Rattle.std.proofs.lemmas.Bool.{eqb-true, eq-eqb}
 use Rattle.psx_ins.specs.declared.ins.Ins.{Ins}
 use Rattle.psx_ins.specs.declared.ins.Ins.TheVariants.{SLL, SRL, SRA, SLLV, SRLV, SRAV, MFHI, MTHI, MFLO, MTLO, MULT, MULTU, DIV, DIVU, ADDU, SUBU, AND, OR, XOR, NOR, SLT, SLTU, ADDIU, SLTI, SLTIU, ANDI, ORI, XORI, LUI, LB, LW, LBU, SB, SW, MFC0, MTC0}
 use Rattle.psx_base.specs.Memory.{Memory, byte, word, put_byte, put_word, is_mapped, is_writable}
-use Rattle.psx_base.specs.Registers.{Registers, register, with_register}
+use Rattle.psx_base.specs.Registers.{Registers, register}
 use Rattle.psx_base.specs.Context.{settled}
 use Rattle.psx_base.specs.Addresses.{place}
 use Rattle.psx_base.specs.PortAddresses.{port}

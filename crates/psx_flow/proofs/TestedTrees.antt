@@ -1,5 +1,5 @@
 -- The listings of `tested` as trees.
-use Rattle.std.specs.Prelude.{◌≡◌, ℕ, Some, [], ◌∷◌, refl}
+use Rattle.std.specs.Prelude.{◌≡◌, ℕ, Some, [], refl}
 use Rattle.psx_ins.specs.declared.reg.Reg.{Reg}
 use Rattle.psx_ins.specs.declared.ins.Ins.TheVariants.{SLL, ADDU, SUBU, AND, SLTU, SLTIU, LUI, LBU, LW, SB, SW}
 use Rattle.psx_flow.specs.declared.kinds.Tested.{Tested}

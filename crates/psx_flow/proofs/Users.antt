@@ -1,10 +1,10 @@
 -- Sums and tests over the ranges of user memory.
-use Rattle.std.proofs.Common.{◌≡◌, ℕ, ◌+◌, ◌-◌, ◌*◌, ◌/◌, ◌<◌, ◌≤◌, ◌%◌, ◌^◌, ◌⊎◌, inl, inr, Bool, true, false, cond, refl, sym, ap, ◌∙◌, subst, arith, ⊎_elim, eq-eqb}
-use Rattle.std.specs.Prelude.{nat_lt, nat_le, nat_eq, bit_and, ◌&&◌, ◌||◌, if◌then◌else◌}
+use Rattle.std.proofs.Common.{◌≡◌, ℕ, ◌+◌, ◌-◌, ◌*◌, ◌<◌, ◌≤◌, ◌%◌, ◌^◌, ◌⊎◌, inl, inr, Bool, true, false, cond, refl, sym, ap, ◌∙◌, subst, arith, ⊎_elim, eq-eqb}
+use Rattle.std.specs.Prelude.{nat_lt, nat_eq, bit_and, ◌&&◌, ◌||◌, if◌then◌else◌}
 use Rattle.std.proofs.lemmas.Bool.{cases_lt, true≢false, false≢true}
-use Rattle.psx_base.specs.Addresses.{user, place, is_mirrored, top, low, user_main, scratchpad}
+use Rattle.psx_base.specs.Addresses.{user, place, top, low, user_main, scratchpad}
 use Rattle.psx_cpu.specs.Words.{truth}
-use Rattle.psx_flow.proofs.Log.{Sort, sort, sort_by, is_port, in_user, byte_sort, word_sort, User, Nowhere}
+use Rattle.psx_flow.proofs.Log.{sort, sort_by, is_port, in_user, byte_sort, word_sort, User, Nowhere}
 
 -- modulo 2 ^ 32
 abbrev pub wrap : ℕ → ℕ

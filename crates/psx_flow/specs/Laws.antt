@@ -12,7 +12,7 @@ use Rattle.psx_flow.specs.Run.{Run, Access, accessed, state_at, spares}
 use Rattle.psx_flow.specs.Meets.{Meets, calls}
 use Rattle.psx_flow.specs.Runs.{Falls, Goes, Called, any, Runs, called}
 use Rattle.psx_flow.specs.Plain.{steps, board}
-use Rattle.psx_flow.specs.Reaches.{IsPlaced, ArePlaced, Keeps, Reaches}
+use Rattle.psx_flow.specs.Reaches.{IsPlaced, ArePlaced, Reaches}
 
 -- ---- the load delay
 

@@ -4,7 +4,7 @@ use Rattle.psx_ins.specs.declared.ins.Ins.{Ins}
 use Rattle.psx_ins.specs.Decoding.{instruction_of}
 use Rattle.psx_cpu.specs.Processor.{Core, Bus, State, state_of}
 use Rattle.psx_cpu.specs.DataAccess.{read_word}
-use Rattle.psx_cpu.specs.Step.{Move, Goes, Reads, Writes, Enters, Leaves, Stops, step}
+use Rattle.psx_cpu.specs.Step.{Move, Goes, Reads, Writes, step}
 use Rattle.psx_flow.specs.Run.{Access, Run, state_at, accessed}
 
 -- the processor with its memory, the accesses so far, newest first, and the number of steps

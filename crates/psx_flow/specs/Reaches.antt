@@ -1,5 +1,5 @@
 -- Where the words of a listing stand, and what running them comes to.
-use Rattle.std.specs.Prelude.{◌≡◌, ℕ, ◌+◌, ◌*◌, ◌%◌, ◌^◌, ◌<◌, ◌≤◌, Bool, true, ◌&&◌, IsTrue, List, [], ◌∷◌, Some}
+use Rattle.std.specs.Prelude.{◌≡◌, ℕ, ◌+◌, ◌*◌, ◌%◌, ◌≤◌, Bool, true, ◌&&◌, IsTrue, List, [], ◌∷◌, Some}
 use Rattle.psx_base.specs.Memory.{Memory, byte, word, is_mapped}
 use Rattle.psx_base.specs.Addresses.{place}
 use Rattle.psx_cpu.specs.Processor.{Bus}

@@ -1,6 +1,5 @@
 -- By the same over trees.
-use Rattle.std.proofs.Common.{◌≡◌, ℕ, Bool, ◌+◌, ◌*◌, ⊎_elim, refl, subst, sym}
-use Rattle.psx_flow.specs.Tree.{size}
+use Rattle.std.proofs.Common.{ℕ, Bool, ◌*◌, ⊎_elim, refl, subst, sym}
 use Rattle.psx_flow.specs.Run.{Run}
 use Rattle.psx_flow.specs.Runs.{Falls, Goes}
 use Rattle.psx_flow.specs.Laws.{IsMade}
