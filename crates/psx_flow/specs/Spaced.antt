@@ -5,7 +5,6 @@ use Rattle.psx_ins.specs.declared.ins.Ins.{Ins}
 use Rattle.psx_ins.specs.declared.ins.Ins.TheVariants.{SLL, SRL, SRA, SLLV, SRLV, SRAV, JR, JALR, SYSCALL, BREAK, MFHI, MTHI, MFLO, MTLO, MULT, MULTU, DIV, DIVU, ADD, ADDU, SUB, SUBU, AND, OR, XOR, NOR, SLT, SLTU, BLTZ, BGEZ, BLTZAL, BGEZAL, J, JAL, BEQ, BNE, BLEZ, BGTZ, ADDI, ADDIU, SLTI, SLTIU, ANDI, ORI, XORI, LUI, LB, LH, LWL, LW, LBU, LHU, LWR, SB, SH, SWL, SW, SWR, MFC0, MTC0, RFE}
 use Rattle.psx_flow.specs.declared.node.Node.{Node}
 use Rattle.psx_flow.specs.declared.node.Node.TheVariants.{Op}
-use Rattle.psx_flow.specs.Tree.{Tree, Stop, Do, When, Choose, Loop, Visit, Go, GoTo}
 
 abbrev pub r31 : Reg
 r31 = record { 0 = 31 }
@@ -105,19 +104,3 @@ abbrev pub is_spaced : List Node → Bool
 is_spaced [] = true
 is_spaced (Op i ∷ ns) = has_room (load_of i) ns && is_spaced ns
 is_spaced (_ ∷ ns) = is_spaced ns
-
--- the same of a tree, which nothing follows but an Other or an End
-abbrev pub follows : Option ℕ → Tree → Bool
-follows None T = true
-follows (Some n) (Do i r) = nat_eq n 0 || not (touches i n)
-follows (Some n) _ = nat_eq n 0
-
-abbrev pub spaced : Tree → Bool
-spaced Stop = true
-spaced (Do i r) = follows (load_of i) r && spaced r
-spaced (When t a r) = spaced a && spaced r
-spaced (Choose t a b r) = spaced a && (spaced b && spaced r)
-spaced (Loop t a r) = spaced a && spaced r
-spaced (Visit a r) = spaced r
-spaced (Go a r) = spaced r
-spaced (GoTo n r) = spaced r
