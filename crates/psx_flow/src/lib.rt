@@ -3,6 +3,7 @@
 //! The routines of the kernel are listings, and the image holds their words.
 #![tactic(auto)]
 
+mod assembly;
 mod emit;
 mod fit;
 pub mod kinds;

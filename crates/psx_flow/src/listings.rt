@@ -7,49 +7,34 @@ ghost use Rattle.psx_flow.specs.Tested.{listing, Serves};
 
 use crate::kinds::Tested;
 use crate::node::{Node, Test};
-use psx_ins::ins::Ins;
-use psx_ins::reg::Reg;
-
-const R0: Reg = Reg(0);
-
-const R8: Reg = Reg(8);
-
-const R9: Reg = Reg(9);
-
-const R10: Reg = Reg(10);
-
-const R11: Reg = Reg(11);
-
-const R12: Reg = Reg(12);
-
-const R31: Reg = Reg(31);
+use crate::{op, register};
 
 // A listing that begins with the test of the address in r8: r10 becomes 1 where it is user memory, else 0.
 macro_rules! user_then {
     ($($node:expr),* $(,)?) => {
         [
             // User memory of the lowest, the cached and the uncached segment: 2031616 bytes from 10000h, 80010000h and A0010000h.
-            Node::Op(Ins::LUI { t: R11, imm: 0x0001 }),
-            Node::Op(Ins::SUBU { s: R8, t: R11, d: R11 }),
-            Node::Op(Ins::LUI { t: R12, imm: 0x001F }),
-            Node::Op(Ins::SLTU { s: R11, t: R12, d: R10 }),
-            Node::Op(Ins::LUI { t: R11, imm: 0x8001 }),
-            Node::Op(Ins::SUBU { s: R8, t: R11, d: R11 }),
-            Node::Op(Ins::SLTU { s: R11, t: R12, d: R11 }),
-            Node::Op(Ins::ADDU { s: R10, t: R11, d: R10 }),
-            Node::Op(Ins::LUI { t: R11, imm: 0xA001 }),
-            Node::Op(Ins::SUBU { s: R8, t: R11, d: R11 }),
-            Node::Op(Ins::SLTU { s: R11, t: R12, d: R11 }),
-            Node::Op(Ins::ADDU { s: R10, t: R11, d: R10 }),
+            op!(LUI r11, 0x0001),
+            op!(SUBU r11, r8, r11),
+            op!(LUI r12, 0x001F),
+            op!(SLTU r10, r11, r12),
+            op!(LUI r11, 0x8001),
+            op!(SUBU r11, r8, r11),
+            op!(SLTU r11, r11, r12),
+            op!(ADDU r10, r10, r11),
+            op!(LUI r11, 0xA001),
+            op!(SUBU r11, r8, r11),
+            op!(SLTU r11, r11, r12),
+            op!(ADDU r10, r10, r11),
             // The scratchpad: 1024 bytes from 1F800000h and 9F800000h.
-            Node::Op(Ins::LUI { t: R11, imm: 0x1F80 }),
-            Node::Op(Ins::SUBU { s: R8, t: R11, d: R11 }),
-            Node::Op(Ins::SLTIU { s: R11, t: R11, imm: 0x0400 }),
-            Node::Op(Ins::ADDU { s: R10, t: R11, d: R10 }),
-            Node::Op(Ins::LUI { t: R11, imm: 0x9F80 }),
-            Node::Op(Ins::SUBU { s: R8, t: R11, d: R11 }),
-            Node::Op(Ins::SLTIU { s: R11, t: R11, imm: 0x0400 }),
-            Node::Op(Ins::ADDU { s: R10, t: R11, d: R10 }),
+            op!(LUI r11, 0x1F80),
+            op!(SUBU r11, r8, r11),
+            op!(SLTIU r11, r11, 0x0400),
+            op!(ADDU r10, r10, r11),
+            op!(LUI r11, 0x9F80),
+            op!(SUBU r11, r8, r11),
+            op!(SLTIU r11, r11, 0x0400),
+            op!(ADDU r10, r10, r11),
             $($node),*
         ]
     };
@@ -59,61 +44,46 @@ macro_rules! user_then {
 macro_rules! user_word_then {
     ($($node:expr),* $(,)?) => {
         user_then![
-            Node::Op(Ins::SLL { t: R8, d: R11, n: 30 }),
-            Node::Op(Ins::SLTIU { s: R11, t: R11, imm: 1 }),
-            Node::Op(Ins::AND { s: R10, t: R11, d: R10 }),
+            op!(SLL r11, r8, 30),
+            op!(SLTIU r11, r11, 1),
+            op!(AND r10, r10, r11),
             $($node),*
         ]
     };
 }
 
-/// The nop behind a load.
-const NOP: Node = Node::Op(Ins::SLL { t: R0, d: R0, n: 0 });
-
+/// Reads a byte.
 pub const READ_BYTE: [Node; 25] = user_then![
-    Node::If(Test::Differ(R10, R0)),
-    Node::Op(Ins::LBU {
-        s: R8,
-        t: R9,
-        imm: 0
-    }),
-    NOP,
+    Node::If(Test::Differ(register!(r10), register!(r0))),
+    op!(LBU r9, 0(r8)),
+    op!(NOP),
     Node::End,
-    Node::JumpTo(R31),
+    Node::JumpTo(register!(r31)),
 ];
 
+/// Writes the low byte of r9.
 pub const WRITE_BYTE: [Node; 24] = user_then![
-    Node::If(Test::Differ(R10, R0)),
-    Node::Op(Ins::SB {
-        s: R8,
-        t: R9,
-        imm: 0
-    }),
+    Node::If(Test::Differ(register!(r10), register!(r0))),
+    op!(SB r9, 0(r8)),
     Node::End,
-    Node::JumpTo(R31),
+    Node::JumpTo(register!(r31)),
 ];
 
+/// Reads a word.
 pub const READ_WORD: [Node; 28] = user_word_then![
-    Node::If(Test::Differ(R10, R0)),
-    Node::Op(Ins::LW {
-        s: R8,
-        t: R9,
-        imm: 0
-    }),
-    NOP,
+    Node::If(Test::Differ(register!(r10), register!(r0))),
+    op!(LW r9, 0(r8)),
+    op!(NOP),
     Node::End,
-    Node::JumpTo(R31),
+    Node::JumpTo(register!(r31)),
 ];
 
+/// Writes r9.
 pub const WRITE_WORD: [Node; 27] = user_word_then![
-    Node::If(Test::Differ(R10, R0)),
-    Node::Op(Ins::SW {
-        s: R8,
-        t: R9,
-        imm: 0
-    }),
+    Node::If(Test::Differ(register!(r10), register!(r0))),
+    op!(SW r9, 0(r8)),
     Node::End,
-    Node::JumpTo(R31),
+    Node::JumpTo(register!(r31)),
 ];
 
 /// The listing of a tested access. It ends by a jump to the address in r31. Where the address in r8 is user memory, for a word also a multiple of 4, it makes the access,
