@@ -3,7 +3,7 @@ use Rattle.std.specs.Prelude.{◌≡◌, ◌≢◌, ℕ, zero, suc, ◌+◌, ◌
 use Rattle.psx_base.specs.Memory.{Memory, byte}
 use Rattle.psx_base.specs.Addresses.{place, user}
 use Rattle.psx_cpu.specs.Processor.{Bus}
-use Rattle.flow_pilots.specs.declared.strlen.TheConstants.{LEAVE, BAD_POINTER, STRLEN}
+use Rattle.flow_pilots.specs.declared.places.TheConstants.{LEAVE, BAD_POINTER, STRLEN}
 use Rattle.psx_flow.specs.Tree.{Tree}
 use Rattle.psx_flow.specs.Run.{Run, Access, Load}
 use Rattle.psx_flow.specs.Kernel.{kernel_words}

@@ -2,8 +2,7 @@
 use Rattle.std.specs.Prelude.{◌≡◌, ℕ, ◌+◌, ◌*◌, ◌%◌, ◌^◌, ◌<◌, ◌≤◌, []}
 use Rattle.psx_base.specs.Memory.{Memory, word, put_word}
 use Rattle.psx_cpu.specs.Processor.{Bus}
-use Rattle.flow_pilots.specs.declared.strlen.TheConstants.{LEAVE}
-use Rattle.flow_pilots.specs.declared.table.TheConstants.{DISABLE}
+use Rattle.flow_pilots.specs.declared.places.TheConstants.{LEAVE, DISABLE}
 use Rattle.psx_flow.specs.Tree.{Tree}
 use Rattle.psx_flow.specs.Run.{Run}
 use Rattle.psx_flow.specs.Kernel.{kernel_words}

@@ -2,5 +2,6 @@
 //! They are no part of the image.
 #![tactic(auto)]
 
+pub mod places;
 pub mod strlen;
 pub mod table;

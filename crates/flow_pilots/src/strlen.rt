@@ -5,46 +5,29 @@ ghost use Rattle.psx_flow.specs.Well.{is_well};
 ghost use Rattle.psx_flow.specs.Spaced.{is_spaced};
 ghost use Rattle.flow_pilots.specs.Strlen.{Serves};
 
-use psx_flow::{Node, Test};
-use psx_ins::ins::Ins;
-use psx_ins::reg::Reg;
-
-const R0: Reg = Reg(0);
-const R2: Reg = Reg(2);
-const R4: Reg = Reg(4);
-const R8: Reg = Reg(8);
-const R9: Reg = Reg(9);
-const R10: Reg = Reg(10);
-
-/// Where the listing that reads a byte stands.
-pub const READ_BYTE: u32 = 0x1C00;
-/// Where a call that has its answer goes on.
-pub const LEAVE: u32 = 0x1E00;
-/// Where a call goes on that met an address which isn't user memory; the address is in r8.
-pub const BAD_POINTER: u32 = 0x1E80;
-/// Where the listing stands.
-pub const STRLEN: u32 = 0x4C00;
+use crate::places::{BAD_POINTER, LEAVE, READ_BYTE};
+use psx_flow::{Node, Test, op, register};
 
 // r4 is the text, r8 the address of the byte that was read last, r9 that byte.
 const NODES: [Node; 18] = [
-    Node::If(Test::Same(R4, R0)),
-    Node::Op(Ins::OR { s: R0, t: R0, d: R2 }),
+    Node::If(Test::Same(register!(r4), register!(r0))),
+    op!(OR r2, r0, r0),
     Node::Jump(LEAVE),
     Node::End,
-    Node::Op(Ins::OR { s: R0, t: R4, d: R8 }),
+    op!(OR r8, r0, r4),
     Node::Call(READ_BYTE),
-    Node::If(Test::Same(R10, R0)),
+    Node::If(Test::Same(register!(r10), register!(r0))),
     Node::Jump(BAD_POINTER),
     Node::End,
     // r8 - r4 bytes before r8 are user memory and not 0, and r9 is the byte at r8.
-    Node::While(Test::Differ(R9, R0)),
-    Node::Op(Ins::ADDIU { s: R8, t: R8, imm: 1 }),
+    Node::While(Test::Differ(register!(r9), register!(r0))),
+    op!(ADDIU r8, r8, 1),
     Node::Call(READ_BYTE),
-    Node::If(Test::Same(R10, R0)),
+    Node::If(Test::Same(register!(r10), register!(r0))),
     Node::Jump(BAD_POINTER),
     Node::End,
     Node::End,
-    Node::Op(Ins::SUBU { s: R8, t: R4, d: R2 }),
+    op!(SUBU r2, r8, r4),
     Node::Jump(LEAVE),
 ];
 

@@ -5,35 +5,24 @@ ghost use Rattle.psx_flow.specs.Well.{is_well};
 ghost use Rattle.psx_flow.specs.Spaced.{is_spaced};
 ghost use Rattle.flow_pilots.specs.Table.{Serves};
 
-use crate::strlen::LEAVE;
-use psx_flow::{Node, Test};
-use psx_ins::ins::Ins;
-use psx_ins::reg::Reg;
-
-const R0: Reg = Reg(0);
-const R2: Reg = Reg(2);
-const R4: Reg = Reg(4);
-const R8: Reg = Reg(8);
-const R9: Reg = Reg(9);
-
-/// Where the listing stands.
-pub const DISABLE: u32 = 0x2800;
+use crate::places::LEAVE;
+use psx_flow::{Node, Test, op, register};
 
 // r4 is the entry's number, r8 its address less that of the table's second word, cut to 16 bits.
 const NODES: [Node; 14] = [
-    Node::Op(Ins::SLTIU { s: R4, t: R8, imm: 64 }),
-    Node::If(Test::Same(R8, R0)),
-    Node::Op(Ins::OR { s: R0, t: R0, d: R2 }),
+    op!(SLTIU r8, r4, 64),
+    Node::If(Test::Same(register!(r8), register!(r0))),
+    op!(OR r2, r0, r0),
     Node::Jump(LEAVE),
     Node::End,
-    Node::Op(Ins::SLL { t: R4, d: R8, n: 5 }),
-    Node::Op(Ins::SLL { t: R4, d: R9, n: 2 }),
-    Node::Op(Ins::SUBU { s: R8, t: R9, d: R8 }),
-    Node::Op(Ins::LUI { t: R9, imm: 0x8001 }),
-    Node::Op(Ins::ADDU { s: R8, t: R9, d: R8 }),
-    Node::Op(Ins::LW { s: R8, t: R2, imm: 0xBC04 }),
-    Node::Op(Ins::ORI { s: R0, t: R9, imm: 0x1000 }),
-    Node::Op(Ins::SW { s: R8, t: R9, imm: 0xBC04 }),
+    op!(SLL r8, r4, 5),
+    op!(SLL r9, r4, 2),
+    op!(SUBU r8, r8, r9),
+    op!(LUI r9, 0x8001),
+    op!(ADDU r8, r8, r9),
+    op!(LW r2, 0xBC04(r8)),
+    op!(ORI r9, r0, 0x1000),
+    op!(SW r9, 0xBC04(r8)),
     Node::Jump(LEAVE),
 ];
 

@@ -432,14 +432,22 @@ sound C fair Stop at K L G f c z m w q p ok h = f c z m w q p ok h
 sound C fair (Do i r) at K L G f c z m w q p ok h =
     act_is m (λ c' z' w' q'. Sym C r (at + 4) K G c' z' m w' q' (suc p)) (Meets kernel_words C r (at + 4) L G) p
     (λ c' z' w' q' ok' g. sound C fair r (at + 4) K L G f c' z' m w' q' (suc p) ok' g) i at c z w q ok h
-sound C fair (When t a r) at K L G f c z m w q p ok h = (
-  λ e. sound C fair a (at + 8) _ _ G (sound C fair r (at + (8 + 4 * size a)) K L G f) c z m w q (suc p) ok (asks_is t c (λ P. P → _) h.0 e),
-  λ e. sound C fair r (at + (8 + 4 * size a)) K L G f c z m w q (suc p) ok (asks_is (opposite t) c (λ P. P → _) h.1 e),
-)
+sound C fair (When t a r) at K L G f c z m w q p ok h =
+    let end : ℕ = at + (8 + 4 * size a) in
+    let behind : Part = Sym C r end K G in
+    let goal : Goal = Meets kernel_words C r end L G in
+    let rest = sound C fair r end K L G f in (
+      λ e. sound C fair a (at + 8) behind goal G rest c z m w q (suc p) ok (asks_is t c (λ P. P → Sym C a (at + 8) behind G c z m w q (suc p)) h.0 e),
+      λ e. rest c z m w q (suc p) ok (asks_is (opposite t) c (λ P. P → behind c z m w q (suc p)) h.1 e),
+    )
 sound C fair (Choose t a b r) at K L G f c z m w q p ok h =
-    let rest = sound C fair r (at + (16 + 4 * size a + 4 * size b)) K L G f in (
-      λ e. sound C fair a (at + 8) _ _ G rest c z m w q (suc p) ok (asks_is t c (λ P. P → _) h.0 e),
-      λ e. sound C fair b (at + (16 + 4 * size a)) _ _ G rest c z m w q (suc p) ok (asks_is (opposite t) c (λ P. P → _) h.1 e),
+    let other : ℕ = at + (16 + 4 * size a) in
+    let end : ℕ = at + (16 + 4 * size a + 4 * size b) in
+    let behind : Part = Sym C r end K G in
+    let goal : Goal = Meets kernel_words C r end L G in
+    let rest = sound C fair r end K L G f in (
+      λ e. sound C fair a (at + 8) behind goal G rest c z m w q (suc p) ok (asks_is t c (λ P. P → Sym C a (at + 8) behind G c z m w q (suc p)) h.0 e),
+      λ e. sound C fair b other behind goal G rest c z m w q (suc p) ok (asks_is (opposite t) c (λ P. P → Sym C b other behind G c z m w q (suc p)) h.1 e),
     )
 sound C fair (Loop t a r) at K L G f c z m w q p ok h =
     meets_mono kernel_words C fair (Loop t a Stop) at (Anew (Sym C r (at + (16 + 4 * size a)) K G)) (Meets kernel_words C r (at + (16 + 4 * size a)) L G) G G _
