@@ -1,5 +1,5 @@
 -- The entry is changed, by the rules of Kit.
-use Rattle.psx_flow.proofs.Kit.{◌≡◌, ℕ, ◌+◌, ◌-◌, ◌*◌, ◌%◌, ◌^◌, ◌<◌, ◌≤◌, [], true, false, refl, arith, ⊎_elim, place, Run, Meets, calls, Tree, Stop, Do, When, Go, kernel_words, fair, start, word_sort, Kernel}
+use Rattle.psx_flow.proofs.Kit.{◌≡◌, ℕ, ◌+◌, ◌-◌, ◌*◌, ◌%◌, ◌^◌, ◌<◌, ◌≤◌, [], false, refl, arith, ⊎_elim, place, Run, Meets, calls, Tree, Stop, Do, When, Go, kernel_words, fair, start, word_sort, Kernel}
 use Rattle.std.specs.Prelude.{nat_lt}
 use Rattle.std.proofs.lemmas.Bool.{cases_lt, lt-ltb}
 use Rattle.psx_ins.specs.declared.ins.Ins.TheVariants.{SLL, SUBU, OR, ADDU, SLTIU, ORI, LUI, LW, SW}

@@ -1,6 +1,6 @@
 -- The change of an entry of a table of 64, 28 bytes each (PSX-SPX, Kernel (BIOS), EvCB).
-use Rattle.std.specs.Prelude.{◌≡◌, ℕ, ◌+◌, ◌*◌, ◌%◌, ◌^◌, ◌<◌, ◌≤◌, []}
-use Rattle.psx_base.specs.Memory.{Memory, word, put_word}
+use Rattle.std.specs.Prelude.{◌≡◌, ℕ, ◌+◌, ◌*◌, ◌%◌, ◌^◌, ◌<◌, ◌≤◌}
+use Rattle.psx_base.specs.Memory.{word, put_word}
 use Rattle.psx_cpu.specs.Processor.{Bus}
 use Rattle.flow_pilots.specs.declared.places.TheConstants.{LEAVE, DISABLE}
 use Rattle.psx_flow.specs.Tree.{Tree}

@@ -1,15 +1,16 @@
 //! The length of a text.
-ghost use Rattle.std.specs.Prelude.{IsTrue, IfSome};
+ghost use Rattle.std.specs.Prelude.{◌≡◌, IsTrue, IfSome};
 ghost use Rattle.psx_flow.specs.Reading.{tree_of};
 ghost use Rattle.psx_flow.specs.Well.{is_well};
 ghost use Rattle.psx_flow.specs.Spaced.{is_spaced};
+ghost use Rattle.flow_pilots.specs.declared.strlen.TheConstants.{NODES};
 ghost use Rattle.flow_pilots.specs.Strlen.{Serves};
 
 use crate::places::{BAD_POINTER, LEAVE, READ_BYTE};
 use psx_flow::{Node, Test, op, register};
 
-// r4 is the text, r8 the address of the byte that was read last, r9 that byte.
-const NODES: [Node; 18] = [
+/// r4 is the text, r8 the address of the byte that was read last, r9 that byte.
+pub const NODES: [Node; 18] = [
     Node::If(Test::Same(register!(r4), register!(r0))),
     op!(OR r2, r0, r0),
     Node::Jump(LEAVE),
@@ -34,6 +35,7 @@ const NODES: [Node; 18] = [
 /// The listing of the call: r4 is an address, and r2 becomes the number of bytes before the first 0 from there on, or 0 where r4 is 0.
 /// The first address that isn't user memory ends it.
 pub fn strlen() -> &'static [Node]
+    ensures listing { result.now ≡ NODES }
     ensures well { IsTrue (is_well result.now) }
     ensures spaced { IsTrue (is_spaced result.now) }
     ensures serves { IfSome (tree_of result.now) (λ tree. Serves tree) }
