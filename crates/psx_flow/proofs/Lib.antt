@@ -23,3 +23,5 @@ pub mod Settling
 pub mod Follow
 pub mod TestedTrees
 pub mod Knows
+pub mod Telling
+pub mod Placing

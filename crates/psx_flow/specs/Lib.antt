@@ -13,3 +13,4 @@ pub mod Reaches
 pub mod Kernel
 pub mod Tested
 pub mod Laws
+pub mod Told

@@ -1,5 +1,6 @@
 //! What is proved of listings and of the processor that runs their words.
 ghost use Rattle.psx_flow.specs.Laws.{LoadsSettle, WordsRun, RunsAreMade, OpsRun};
+ghost use Rattle.psx_flow.specs.Told.{PortsAreTold};
 
 /// Where an instruction neither reads nor writes the register of the pending load, it does what it does where that load is settled.
 pub fn loads_settle()
@@ -19,4 +20,9 @@ pub fn runs_are_made()
 /// Each instruction that doesn't trap has a run.
 pub fn ops_run()
     ensures { OpsRun }
+{}
+
+/// The accesses of a run to ports are those that the processor's steps tell.
+pub fn ports_are_told()
+    ensures { PortsAreTold }
 {}

@@ -105,7 +105,7 @@ pub fn tested(kind: Tested) -> &'static [Node]
 #[cfg(test)]
 mod tests {
     use super::*;
-    use crate::law::{loads_settle, ops_run, runs_are_made, words_run};
+    use crate::law::{loads_settle, ops_run, ports_are_told, runs_are_made, words_run};
     use crate::size_of;
 
     #[test]
@@ -122,5 +122,6 @@ mod tests {
         words_run();
         runs_are_made();
         ops_run();
+        ports_are_told();
     }
 }
