@@ -8,7 +8,8 @@ use Rattle.psx_flow.specs.declared.kinds.Tested.TheVariants.{ReadByte, WriteByte
 use Rattle.psx_flow.proofs.TestedTrees.{tree}
 use Rattle.psx_flow.proofs.Log.{User, UserByte, UserWord, user_byte_then, user_word_then, user_byte_mono, user_word_mono}
 use Rattle.psx_flow.proofs.Users.{sum_of, ranges, ranges_word, sort_user, sort_user_word}
-use Rattle.psx_flow.proofs.Sym.{sound, user_above, word_above}
+use Rattle.psx_flow.proofs.Sorts.{user_above, word_above}
+use Rattle.psx_flow.proofs.Sound.{sound}
 use Rattle.psx_flow.proofs.Step.{both}
 
 -- n nodes more

@@ -16,7 +16,7 @@ pub use Rattle.psx_flow.specs.Kernel.{kernel_words}
 pub use Rattle.psx_flow.proofs.Rules.{Fair, fair}
 pub use Rattle.psx_flow.proofs.Log.{Entry, applied, Sorted, word_sort, byte_sort, User, Kernel}
 pub use Rattle.psx_flow.proofs.Sym.{Sym, Asks, Anew, Part, Calling, run, load_byte_by, load_word_by, store_byte_by, store_word_by, Next}
-use Rattle.psx_flow.proofs.Sym.{sound, asks_is}
+use Rattle.psx_flow.proofs.Sound.{sound, asks_is}
 
 -- a goal at the parts of a state
 abbrev pub ended : Goal → Part

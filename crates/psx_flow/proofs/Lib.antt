@@ -15,11 +15,14 @@ pub mod Exact
 pub mod Registers
 pub mod Log
 pub mod Sym
+pub mod Sorts
+pub mod Sound
 pub mod Kit
 pub mod Users
 pub mod Accesses
 pub mod Serves
 pub mod Settling
+pub mod Following
 pub mod Follow
 pub mod TestedTrees
 pub mod Knows

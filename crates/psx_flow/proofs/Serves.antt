@@ -6,7 +6,7 @@ use Rattle.psx_flow.specs.declared.kinds.Tested.TheVariants.{ReadByte, WriteByte
 use Rattle.psx_flow.specs.Tested.{Tries, Serves}
 use Rattle.psx_flow.proofs.TestedTrees.{tree}
 use Rattle.psx_flow.proofs.Rules.{meets_mono}
-use Rattle.psx_flow.proofs.Sym.{anew}
+use Rattle.psx_flow.proofs.Sound.{anew}
 use Rattle.psx_flow.proofs.Accesses.{Back, reads_byte, writes_byte, reads_word, writes_word}
 
 -- what is asked behind a listing, at the parts of a state

@@ -3,7 +3,8 @@ use Rattle.std.proofs.Common.{ℕ, Bool, ◌*◌, ⊎_elim, refl, subst, sym}
 use Rattle.psx_flow.specs.Run.{Run}
 use Rattle.psx_flow.specs.Runs.{Falls, Goes}
 use Rattle.psx_flow.specs.Laws.{IsMade}
-use Rattle.psx_flow.proofs.Follow.{Follows, follow_listing}
+use Rattle.psx_flow.proofs.Following.{Follows}
+use Rattle.psx_flow.proofs.Follow.{follow_listing}
 use Rattle.psx_flow.specs.Plain.{board}
 use Rattle.psx_base.specs.Memory.{Memory}
 use Rattle.psx_flow.proofs.law.runs_are_made.Goals as goal
