@@ -1,0 +1,20 @@
+//! Two routines in the manner of the kernel's, which show that listings can be proved down to their words: a text's length, and an entry of a table changed.
+//! They are no part of the image.
+#![tactic(auto)]
+
+pub mod places;
+pub mod strlen;
+pub mod table;
+
+#[cfg(test)]
+mod tests {
+    use crate::strlen::strlen;
+    use crate::table::disable;
+    use psx_flow::size_of;
+
+    #[test]
+    fn listings_have_their_words(rt: HostRuntime) {
+        assert_eq!(rt; size_of(strlen()), 26);
+        assert_eq!(rt; size_of(disable()), 16);
+    }
+}

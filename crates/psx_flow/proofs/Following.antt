@@ -1,0 +1,196 @@
+-- Words that are run with some answers of the bus, one part after another.
+use Rattle.std.proofs.Common.{◌≡◌, ℕ, zero, suc, ◌+◌, ◌-◌, ◌*◌, ◌^◌, ◌<◌, ◌≤◌, Bool, true, false, Option, Some, None, refl, sym, ap, ◌∙◌, subst, arith, ⊎_elim}
+use Rattle.std.specs.Prelude.{nat_lt, if◌then◌else◌}
+use Rattle.std.proofs.lemmas.Bool.{lt-ltb}
+use Rattle.psx_base.specs.Memory.{Memory}
+use Rattle.psx_base.specs.Registers.{Registers}
+use Rattle.psx_base.specs.Context.{settled}
+use Rattle.psx_cpu.specs.Processor.{Core, Bus, idle}
+use Rattle.psx_cpu.specs.Step.{step}
+use Rattle.psx_flow.specs.declared.node.Test.{Test}
+use Rattle.psx_flow.specs.Tree.{Tree, size}
+use Rattle.psx_flow.specs.Lowered.{opposite}
+use Rattle.psx_flow.specs.Run.{Run}
+use Rattle.psx_flow.specs.Meets.{Holds, passing, linking}
+use Rattle.psx_flow.specs.Runs.{Ending, Falls, Goes, Then, TurnsOf}
+use Rattle.psx_flow.specs.Plain.{Board, went, onward, seen_at, on, steps, board}
+use Rattle.psx_flow.specs.Reaches.{Keeps}
+use Rattle.psx_flow.proofs.Step.{standing}
+use Rattle.psx_flow.proofs.Moves.{pending_at, Moves, moves_on}
+
+-- ---- answers
+
+on_same : (x : Board) (u : Bus) (w : Option Core) (f g : Board → Option Board) → ((core : Core) → f (record { core = core; seen = seen_at x.core u x.seen; clock = suc x.clock }) ≡ g (record { core = core; seen = seen_at x.core u x.seen; clock = suc x.clock }))
+    → on (onward x u w) f ≡ on (onward x u w) g
+on_same x u None f g h = refl
+on_same x u (Some core) f g h = h core
+
+-- steps look at the answers of their own counts alone
+pub agree : (k : ℕ) (x : Board) (a b : ℕ → Bus) → ((n : ℕ) → x.clock ≤ n → n < x.clock + k → a n ≡ b n) → steps a k x ≡ steps b k x
+agree zero x a b h = refl
+agree (suc k) x a b h =
+    let e : a x.clock ≡ b x.clock = h x.clock (omega arith) (omega arith) in
+    ap (λ u. on (onward x u (went (step x.core u))) (steps a k)) e
+    ∙ on_same x (b x.clock) (went (step x.core (b x.clock))) (steps a k) (steps b k)
+    (λ core. agree k (record { core = core; seen = seen_at x.core (b x.clock) x.seen; clock = suc x.clock }) a b (λ n l m. h n (omega arith) (omega arith)))
+
+-- the first answers up to a count, and then the others
+abbrev before : ℕ → (ℕ → Bus) → (ℕ → Bus) → ℕ → Bus
+before c a b n = if nat_lt n c then a n else b n
+
+before_low : (c : ℕ) (a b : ℕ → Bus) (n : ℕ) → n < c → before c a b n ≡ a n
+before_low c a b n h = ap (λ t. if t then a n else b n) (lt-ltb n c h)
+
+not_below : (n c : ℕ) → c ≤ n → nat_lt n c ≡ false
+not_below n c h = grind arith
+
+before_high : (c : ℕ) (a b : ℕ → Bus) (n : ℕ) → c ≤ n → before c a b n ≡ b n
+before_high c a b n h = ap (λ t. if t then a n else b n) (not_below n c h)
+
+few_before : (c : ℕ) (a b : ℕ → Bus) → ((n : ℕ) → (a n).value < 2 ^ 32) → ((n : ℕ) → (b n).value < 2 ^ 32) → (n : ℕ) → (before c a b n).value < 2 ^ 32
+few_before c a b f g n = go (nat_lt n c)
+  where
+    go : (t : Bool) → (if t then a n else b n).value < 2 ^ 32
+    go true = f n
+    go false = g n
+
+module _ (kept : ℕ → Bool) (first : Memory) where
+  -- from a board of count c the words come to e at `to`, for some answers; n is four times the nodes passed before
+  pub record Follows (x : Board) (c n : ℕ) (e : Run) (to : ℕ) : Type 0 where
+    pub answers : ℕ → Bus
+    pub few : (k : ℕ) → (answers k).value < 2 ^ 32
+    pub count : ℕ
+    pub run : steps answers count x ≡ Some (board e to (c + count))
+    pub bound : count + n ≤ 4 * e.passed
+    pub keeps : Keeps kept first e
+
+  abbrev pub Comes : Board → ℕ → ℕ → ℕ → Ending → Type 0
+  Comes x c n end (Falls e) = Follows x c n e end
+  Comes x c n end (Goes to e) = Follows x c n e to
+
+  -- words that do the same whatever the bus brings
+  abbrev pub Always : ℕ → Board → Board → Type 0
+  Always k x y = (bus : ℕ → Bus) → Moves kept bus first k x y
+
+  pub here : (c : ℕ) (s : Run) (pc : ℕ) → Keeps kept first s → Follows (board s pc c) c (4 * s.passed) s pc
+  here c s pc k = let e : c ≡ c + 0 = omega arith in record { answers = λ n. idle; few = λ n. omega arith; count = 0; run = ap (λ t. Some (board s pc t)) e; bound = omega arith; keeps = k }
+
+  after_words : (k c n m : ℕ) (x y : Board) (e : Run) (to : ℕ) → Always k x y → n + k ≤ m → Follows y (c + k) m e to → Follows x c n e to
+  after_words k c n m x y e to move less q =
+      let t : c + k + q.count ≡ c + (k + q.count) = omega arith in
+      record {
+        answers = q.answers;
+        few = q.few;
+        count = k + q.count;
+        run = moves_on kept q.answers first k q.count x y _ (move q.answers) q.run ∙ ap (λ d. Some (board e to d)) t;
+        bound = omega (arith, less, q.bound);
+        keeps = q.keeps;
+      }
+
+  -- one word, by its answer
+  after_one : (c n m : ℕ) (x : Board) (y : Bus → Board) (b : Bus) (e : Run) (to : ℕ) → x.clock ≡ c → b.value < 2 ^ 32 → ((bus : ℕ → Bus) → Moves kept bus first 1 x (y (bus c))) → (y b).clock ≡ c + 1 → n + 1 ≤ m → Follows (y b) (c + 1) m e to → Follows x c n e to
+  after_one c n m x y b e to clock small move clock' less q =
+      let bus : ℕ → Bus = before (c + 1) (λ k. b) q.answers in
+      let same : bus c ≡ b = before_low (c + 1) (λ k. b) q.answers c (omega arith) in
+      let t : c + 1 + q.count ≡ c + (1 + q.count) = omega arith in
+      record {
+        answers = bus;
+        few = few_before (c + 1) (λ k. b) q.answers (λ k. small) q.few;
+        count = 1 + q.count;
+        run = moves_on kept bus first 1 q.count x (y b) _ (move bus ∙ ap (λ u. Some (y u)) same)
+            (agree q.count (y b) bus q.answers (λ k l m. before_high (c + 1) (λ k. b) q.answers k (omega (arith, clock'))) ∙ q.run)
+            ∙ ap (λ d. Some (board e to d)) t;
+        bound = omega (arith, less, q.bound);
+        keeps = q.keeps;
+      }
+
+  -- one part after another; g is what the first leaves over for the second
+  then_words : (c n v g : ℕ) (x : Board) (m : Run) (b : ℕ) (e : Run) (to : ℕ) → x.clock ≡ c → (p : Follows x c (n + g) m b) → 4 * m.passed ≤ v + g → Follows (board m b (c + p.count)) (c + p.count) v e to → Follows x c n e to
+  then_words c n v g x m b e to clock p less q =
+      let bus : ℕ → Bus = before (c + p.count) p.answers q.answers in
+      let t : c + p.count + q.count ≡ c + (p.count + q.count) = omega arith in
+      record {
+        answers = bus;
+        few = few_before (c + p.count) p.answers q.answers p.few q.few;
+        count = p.count + q.count;
+        run = moves_on kept bus first p.count q.count x (board m b (c + p.count)) _
+            (agree p.count x bus p.answers (λ k l h. before_low (c + p.count) p.answers q.answers k (omega (arith, clock))) ∙ p.run)
+            (agree q.count (board m b (c + p.count)) bus q.answers (λ k l h. before_high (c + p.count) p.answers q.answers k l) ∙ q.run)
+            ∙ ap (λ d. Some (board e to d)) t;
+        bound = omega (arith, p.bound, q.bound, less);
+        keeps = q.keeps;
+      }
+
+  -- ---- endings
+
+  pub words_come : (k c n m : ℕ) (x y : Board) (end : ℕ) (e : Ending) → Always k x y → n + k ≤ m → Comes y (c + k) m end e → Comes x c n end e
+  words_come k c n m x y end (Falls e) move less q = after_words k c n m x y e end move less q
+  words_come k c n m x y end (Goes to e) move less q = after_words k c n m x y e to move less q
+
+  pub one_comes : (c n m : ℕ) (x : Board) (y : Bus → Board) (b : Bus) (end : ℕ) (e : Ending) → x.clock ≡ c → b.value < 2 ^ 32 → ((bus : ℕ → Bus) → Moves kept bus first 1 x (y (bus c))) → (y b).clock ≡ c + 1 → n + 1 ≤ m → Comes (y b) (c + 1) m end e → Comes x c n end e
+  one_comes c n m x y b end (Falls e) clock small move clock' less q = after_one c n m x y b e end clock small move clock' less q
+  one_comes c n m x y b end (Goes to e) clock small move clock' less q = after_one c n m x y b e to clock small move clock' less q
+
+  pub then_come : (c n v g : ℕ) (x : Board) (m : Run) (b end : ℕ) (e : Ending) → x.clock ≡ c → Follows x c (n + g) m b → 4 * m.passed ≤ v + g → ((d : ℕ) → Comes (board m b d) d v end e) → Comes x c n end e
+  then_come c n v g x m b end (Falls e) clock p less q = then_words c n v g x m b e end clock p less (q (c + p.count))
+  then_come c n v g x m b end (Goes to e) clock p less q = then_words c n v g x m b e to clock p less (q (c + p.count))
+
+  pub fewer : (c n m : ℕ) (x : Board) (e : Run) (to : ℕ) → n ≤ m → Follows x c m e to → Follows x c n e to
+  fewer c n m x e to h q = record { answers = q.answers; few = q.few; count = q.count; run = q.run; bound = omega (arith, h, q.bound); keeps = q.keeps }
+
+  pub ends_come : (c n : ℕ) (x : Board) (end end' : ℕ) (e : Ending) → end ≡ end' → Comes x c n end e → Comes x c n end' e
+  ends_come c n x end end' e f q = subst (λ t. Comes x c n t e) f q
+
+  pub rest_comes : (c n : ℕ) (s : Run) (raw : Registers) (p : Option (ℕ × ℕ)) (at end : ℕ) (e : Ending) → settled raw p ≡ s.regs → p ≡ None → Comes (board s at c) c n end e → Comes (standing (pending_at s raw p at) s.seen c) c n end e
+  rest_comes c n s raw p at end e f none q =
+      let g : raw ≡ s.regs = sym (ap (settled raw) none) ∙ f in
+      subst (λ x. Comes x c n end e) (sym (λ j. standing (pending_at s (g j) (none j) at) s.seen c)) q
+
+  pub same_keeps : (s : Run) → Keeps kept first s → Keeps kept first (passing s)
+  same_keeps s k = record { bytes = k.bytes; masked = k.masked }
+
+  pub link_keeps : (s : Run) (back : ℕ) → Keeps kept first s → Keeps kept first (linking s back)
+  link_keeps s back k = record { bytes = k.bytes; masked = k.masked }
+
+  -- a part, and what follows it unless the part jumps; k words lead over to it, and the node before the part has room for them
+  pub part_comes : (A B : Run → Ending → Type 0) (k c n : ℕ) (s : Run) (at mid to end : ℕ) (e : Ending) → Keeps kept first s → n + k ≤ 4 * s.passed → k ≤ 4
+      → ((x : Ending) → A s x → Comes (board s at c) c (4 * s.passed) mid x)
+      → ((d : ℕ) (m : Run) → Keeps kept first m → Always k (board m mid d) (board m to (d + k)))
+      → ((d : ℕ) (m : Run) (x : Ending) → Keeps kept first m → B m x → Comes (board m to d) d (4 * m.passed) end x)
+      → Then A B s e → Comes (board s at c) c n end e
+  part_comes A B k c n s at mid to end e ks less small part over rest h =
+      ⊎_elim
+      (λ t. let p : Follows (board s at c) c (4 * s.passed) t.0 mid = part (Falls t.0) t.1 in
+      then_come c n (4 * t.0.passed - k) k (board s at c) t.0 mid end e refl (fewer c (n + k) (4 * s.passed) (board s at c) t.0 mid less p) (omega arith)
+      (λ d. words_come k d (4 * t.0.passed - k) (4 * t.0.passed) (board t.0 mid d) (board t.0 to (d + k)) end e (over d t.0 p.keeps) (left t.0 p.count p.bound) (rest (d + k) t.0 e p.keeps t.2)))
+      (λ j. let q : Follows (board s at c) c (4 * s.passed) j.1 j.0 = part (Goes j.0 j.1) j.2 in
+      subst (λ x. Comes (board s at c) c n end x) (sym j.3) (fewer c n (4 * s.passed) (board s at c) j.1 j.0 (omega (arith, less)) q))
+      h
+    where
+      left : (m : Run) (q : ℕ) → q + 4 * s.passed ≤ 4 * m.passed → 4 * m.passed - k + k ≤ 4 * m.passed
+      left m q b = omega arith
+
+  pub turns_come : (n k c w : ℕ) (t : Test) (a : Tree) (at to end : ℕ) (x : Board) (s : Run) (e : Ending) (A B : Run → Ending → Type 0)
+      → ((d : ℕ) (m : Run) (y : Ending) → Keeps kept first m → A m y → Comes (board m (at + 8) d) d (4 * m.passed) (at + (8 + 4 * size a)) y)
+      → ((d : ℕ) (m : Run) (y : Ending) → Keeps kept first m → B m y → Comes (board m to d) d (4 * m.passed) end y)
+      → ((d : ℕ) (m : Run) → Keeps kept first m → Holds t m.regs → Always 2 (board m at d) (board m (at + 8) (d + 2)))
+      → ((d : ℕ) (m : Run) → Keeps kept first m → Holds (opposite t) m.regs → Always 2 (board m at d) (board m to (d + 2)))
+      → ((d : ℕ) (m : Run) → Keeps kept first m → Always 2 (board m (at + (8 + 4 * size a)) d) (board m at (d + 2)))
+      → x.clock ≡ c → k ≤ 2 → w ≤ 4 * s.passed → Keeps kept first s → Always k x (board s at (c + k)) → TurnsOf n t A B s e → Comes x c w end e
+  turns_come zero k c w t a at to end x s e A B body rest into past back clock small less ks run h = absurd h
+  turns_come (suc n) k c w t a at to end x s e A B body rest into past back clock small less ks run h =
+      let e2 : c + k + 2 ≡ c + (k + 2) = omega arith in
+      ⊎_elim
+      (λ y. words_come (k + 2) c w (4 * suc s.passed) x (board (passing s) to (c + (k + 2))) end e
+      (λ bus. moves_on kept bus first k 2 x (board s at (c + k)) _ (run bus) (past (c + k) s ks y.0 bus) ∙ ap (λ d. Some (board s to d)) e2) (omega arith)
+      (rest (c + (k + 2)) (passing s) e (same_keeps s ks) y.1))
+      (λ y. words_come (k + 2) c w (4 * suc s.passed) x (board (passing s) (at + 8) (c + (k + 2))) end e
+      (λ bus. moves_on kept bus first k 2 x (board s at (c + k)) _ (run bus) (into (c + k) s ks y.0 bus) ∙ ap (λ d. Some (board s (at + 8) d)) e2) (omega arith)
+      (⊎_elim
+      (λ u. let p : Follows (board (passing s) (at + 8) (c + (k + 2))) (c + (k + 2)) (4 * suc s.passed) u.0 (at + (8 + 4 * size a)) = body (c + (k + 2)) (passing s) (Falls u.0) (same_keeps s ks) u.1 in
+      then_come (c + (k + 2)) (4 * suc s.passed) (4 * u.0.passed) 0 (board (passing s) (at + 8) (c + (k + 2))) u.0 (at + (8 + 4 * size a)) end e refl (fewer _ (4 * suc s.passed + 0) (4 * suc s.passed) _ u.0 _ (omega arith) p) (omega arith)
+      (λ d. turns_come n 2 d (4 * u.0.passed) t a at to end (board u.0 (at + (8 + 4 * size a)) d) u.0 e A B body rest into past back refl (omega arith) (omega arith) p.keeps (back d u.0 p.keeps) u.2))
+      (λ j. let q : Follows (board (passing s) (at + 8) (c + (k + 2))) (c + (k + 2)) (4 * suc s.passed) j.1 j.0 = body (c + (k + 2)) (passing s) (Goes j.0 j.1) (same_keeps s ks) j.2 in
+      subst (λ v. Comes (board (passing s) (at + 8) (c + (k + 2))) (c + (k + 2)) (4 * suc s.passed) end v) (sym j.3) q)
+      y.1))
+      h

@@ -1,0 +1,16 @@
+pub mod Tree
+pub mod Reading
+pub mod Well
+pub mod Nodes
+pub mod Spaced
+pub mod Lowered
+pub mod Emit
+pub mod Run
+pub mod Meets
+pub mod Runs
+pub mod Plain
+pub mod Reaches
+pub mod Kernel
+pub mod Tested
+pub mod Laws
+pub mod Told

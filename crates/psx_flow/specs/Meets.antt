@@ -1,0 +1,65 @@
+-- What a listing meets: from a state, whatever the bus brings, where its runs end.
+use Rattle.std.specs.Prelude.{◌≡◌, ◌≢◌, ℕ, zero, suc, ◌+◌, ◌*◌, ◌^◌, ◌<◌, ◌≤◌, ◌⊎◌, Bool, true, cond, nat_eq, List, [], ◌∷◌, None}
+use Rattle.psx_base.specs.Registers.{Registers, register, with_register}
+use Rattle.psx_cpu.specs.Processor.{Bus}
+use Rattle.psx_cpu.specs.Traps.{trap_of}
+use Rattle.psx_flow.specs.declared.node.Test.{Test}
+use Rattle.psx_flow.specs.declared.node.Test.TheVariants.{Same, Differ, NotAbove, Above, Negative, NotNegative}
+use Rattle.psx_flow.specs.Tree.{Tree, Stop, Do, When, Choose, Loop, Visit, Go, GoTo, size}
+use Rattle.psx_flow.specs.Lowered.{opposite}
+use Rattle.psx_flow.specs.Run.{Run, state_at, done, spares}
+
+-- a test: of two registers, or of one with 0 as a signed number
+abbrev pub Holds : Test → Registers → Type 0
+Holds (Same a b) c = register c a.0 ≡ register c b.0
+Holds (Differ a b) c = register c a.0 ≢ register c b.0
+Holds (NotAbove a) c = (register c a.0 ≡ 0) ⊎ (2 ^ 31 ≤ register c a.0)
+Holds (Above a) c = (0 < register c a.0) × (register c a.0 < 2 ^ 31)
+Holds (Negative a) c = 2 ^ 31 ≤ register c a.0
+Holds (NotNegative a) c = register c a.0 < 2 ^ 31
+
+-- one more node is passed
+abbrev pub passing : Run → Run
+passing s = record s { passed = suc s.passed }
+
+-- a call is made, with the address behind its slot in r31
+abbrev pub linking : Run → ℕ → Run
+linking s back = record s { regs = with_register s.regs 31 back; passed = suc s.passed }
+
+-- what a set of states asks
+abbrev pub Goal : Type 1
+Goal = Run → Type 0
+
+-- what is known of calls: from the state of the call, that the listing at the first address comes back to the second in a state of the goal
+abbrev pub Calls : Type 1
+Calls = ℕ → ℕ → Goal → Goal
+
+-- at most n turns of a loop, each begun with its test, and then what follows it
+abbrev pub Turns : ℕ → Test → (Goal → Goal) → Goal → Goal
+Turns zero t body K s = ⊥
+Turns (suc n) t body K s = (Holds (opposite t) s.regs → K (passing s)) × (Holds t s.regs → body (Turns n t body K) (passing s))
+
+module _ (kept : ℕ → Bool) where
+  -- The tree that stands at `at`, run from s, whatever the bus brings: no instruction traps, or stores over a word that is kept, or turns interrupts on;
+  -- each call comes back; and the run ends, behind the last word in a state of K, or by a jump to an address a in a state of G a.
+  abbrev pub Meets : Calls → Tree → ℕ → Goal → (ℕ → Goal) → Goal
+  Meets C Stop at K G s = K s
+  Meets C (Do i r) at K G s =
+      (trap_of i (state_at s at).context ≡ None) × (spares kept i (state_at s at).context ≡ true)
+      × ((bus : Bus) → bus.value < 2 ^ 32 → Meets C r (at + 4) K G (done i s at bus))
+  Meets C (When t a r) at K G s =
+      (Holds t s.regs → Meets C a (at + 8) (Meets C r (at + (8 + 4 * size a)) K G) G (passing s))
+      × (Holds (opposite t) s.regs → Meets C r (at + (8 + 4 * size a)) K G (passing s))
+  Meets C (Choose t a b r) at K G s =
+      (Holds t s.regs → Meets C a (at + 8) (Meets C r (at + (16 + 4 * size a + 4 * size b)) K G) G (passing s))
+      × (Holds (opposite t) s.regs → Meets C b (at + (16 + 4 * size a)) (Meets C r (at + (16 + 4 * size a + 4 * size b)) K G) G (passing s))
+  Meets C (Loop t a r) at K G s =
+      (n : ℕ) × Turns n t (λ L. Meets C a (at + 8) L G) (Meets C r (at + (16 + 4 * size a)) K G) s
+  Meets C (Visit a r) at K G s = C a (at + 8) (Meets C r (at + 8) K G) (linking s (at + 8))
+  Meets C (Go a r) at K G s = G a (passing s)
+  Meets C (GoTo n r) at K G s = G (register s.regs n.0) (passing s)
+
+  -- The calls of a list of listings with their addresses, each of which calls only those behind it: a call comes back where it jumps to the address behind the call.
+  abbrev pub calls : List (ℕ × Tree) → Calls
+  calls [] a back K s = ⊥
+  calls (l ∷ ls) a back K s = cond (nat_eq a l.0) (Meets (calls ls) l.1 l.0 (λ _. ⊥) (λ b m. (b ≡ back) × K m) s) (calls ls a back K s)
