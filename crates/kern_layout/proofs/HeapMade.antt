@@ -39,16 +39,16 @@ link_spare len k a = ap (λ x. cond (x || nat_eq k 512) 0 (0xD000 + 12 * k)) (ne
 spare_on : (k : ℕ) → (k ≡ 512 → ⊥) → spare_link k ≡ 0xD000 + 12 * k
 spare_on k b = ap (λ x. cond x 0 (0xD000 + 12 * k)) (ne_eqb k 512 b)
 
-module _ (w : ℕ → ℕ) (bs : Blocks) (few : length bs ≤ 512) (s : (a : ℕ) → 0xD000 ≤ a → a < 0xE800 → w a ≡ heap_word bs a) where
+module _ (w : ℕ → ℕ) (bs : Blocks) (few : length bs ≤ 512) (s : (a : ℕ) → a % 4 ≡ 0 → 0xD000 ≤ a → a < 0xE800 → w a ≡ heap_word bs a) where
   -- the words of entry k
-  entry : (k o : ℕ) → k < 512 → o < 12 → w (0xD000 + 12 * k + o) ≡ entry_word bs k o
-  entry k o lt up =
+  entry : (k o : ℕ) → k < 512 → o < 12 → o % 4 ≡ 0 → w (0xD000 + 12 * k + o) ≡ entry_word bs k o
+  entry k o lt up al =
       let q : (0xD000 + 12 * k + o - 0xD000) / 12 ≡ k = omega (arith, up) in
       let r : (0xD000 + 12 * k + o - 0xD000) % 12 ≡ o = omega (arith, up) in
-      s (0xD000 + 12 * k + o) (omega arith) (omega (arith, lt, up)) ∙ (λ j. entry_word bs (q j) (r j))
+      s (0xD000 + 12 * k + o) (omega (arith, al)) (omega arith) (omega (arith, lt, up)) ∙ (λ j. entry_word bs (q j) (r j))
 
   next : (k : ℕ) → k < 512 → w (0xD000 + 12 * k) ≡ link (length bs) (suc k)
-  next k lt = ap w (let e : 0xD000 + 12 * k ≡ 0xD000 + 12 * k + 0 = omega arith in e) ∙ entry k 0 lt (omega arith)
+  next k lt = ap w (let e : 0xD000 + 12 * k ≡ 0xD000 + 12 * k + 0 = omega arith in e) ∙ entry k 0 lt (omega arith) refl
 
   linked_from : (k cell : ℕ) (rest : Blocks) → w cell ≡ link (length bs) k → k + length rest ≡ length bs → ((j : ℕ) → j < length rest → slice_index_or bs (k + j) no_block ≡ slice_index_or rest j no_block) → Linked w cell rest
   linked_from k cell [] c len same = c ∙ link_end (length bs) k (omega arith)
@@ -57,7 +57,7 @@ module _ (w : ℕ → ℕ) (bs : Blocks) (few : length bs ≤ 512) (s : (a : ℕ
       let e : w cell ≡ 0xD000 + 12 * k = c ∙ link_on (length bs) k (λ q. omega arith) (λ q. omega (arith, few)) in
       let here : slice_index_or bs k no_block ≡ b = ap (λ j. slice_index_or bs j no_block) (let z : k ≡ k + 0 = omega arith in z) ∙ same 0 (omega arith) in
       subst (λ z. IsEntry z × Block w z (entry_fields b) × Linked w z rest) (sym e)
-      ((k, lt, refl), (entry k 4 lt (omega arith) ∙ ap (λ (x : ℕ × Bool). x.0) here, (entry k 8 lt (omega arith) ∙ ap (λ (x : ℕ × Bool). cond x.1 1 0) here, tt)),
+      ((k, lt, refl), (entry k 4 lt (omega arith) refl ∙ ap (λ (x : ℕ × Bool). x.0) here, (entry k 8 lt (omega arith) refl ∙ ap (λ (x : ℕ × Bool). cond x.1 1 0) here, tt)),
       linked_from (suc k) (0xD000 + 12 * k) rest (next k lt) (omega arith) (λ j l. ap (λ i. slice_index_or bs i no_block) (let z : suc k + j ≡ k + suc j = omega arith in z) ∙ same (suc j) (omega arith)))
 
   spare_from : (n k cell : ℕ) → w cell ≡ spare_link k → k + n ≡ 512 → length bs ≤ k → Spare w cell n
@@ -66,7 +66,7 @@ module _ (w : ℕ → ℕ) (bs : Blocks) (few : length bs ≤ 512) (s : (a : ℕ
       let lt : k < 512 = omega arith in
       let e : w cell ≡ 0xD000 + 12 * k = c ∙ spare_on k (λ q. omega arith) in
       subst (λ z. IsEntry z × (w (z + 4) ≡ 0) × Spare w z n) (sym e)
-      ((k, lt, refl), entry k 4 lt (omega arith) ∙ ap (λ (x : ℕ × Bool). x.0) (Rattle.std.proofs.lemmas.List.get_or_past bs k no_block le),
+      ((k, lt, refl), entry k 4 lt (omega arith) refl ∙ ap (λ (x : ℕ × Bool). x.0) (Rattle.std.proofs.lemmas.List.get_or_past bs k no_block le),
       spare_from n (suc k) (0xD000 + 12 * k) (next k lt ∙ link_spare (length bs) (suc k) (λ q. omega arith)) (omega arith) (omega arith))
 
   pub heap_made : (h : Heap) → h.blocks ≡ bs → w 0xEA40 ≡ link (length bs) 0 → w 0xEA44 ≡ spare_link (length bs) → HeapAt w h

@@ -13,3 +13,4 @@ pub mod Stored
 pub mod HeapStored
 pub mod StandsMade
 pub mod MemoryStored
+pub mod OpeningRead

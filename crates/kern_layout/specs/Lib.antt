@@ -15,3 +15,4 @@ pub mod OwnRange
 pub mod Stores
 pub mod StoreLaws
 pub mod MemoryLaws
+pub mod Opening

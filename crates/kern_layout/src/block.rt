@@ -47,7 +47,8 @@ impl KernelBlock {
     pub fn put_word(&mut self, at: u32, word: u32)
         requires aligned { at % 4 ≡ 0 }
         requires within { at < 0x10000 }
-        ensures { self.new ≡ slice_set self.old (at / 4) word }
+        ensures set { self.new ≡ slice_set self.old (at / 4) word }
+        ensures size { length self.new ≡ 0x4000 }
     {
         self.words[(at / 4) as usize] = word;
     }

@@ -5,10 +5,12 @@
 
 mod block;
 pub mod laws;
+pub mod opening;
 pub mod places;
 pub mod ranges;
 #[cfg(test)]
 mod tests;
 
 pub use block::KernelBlock;
+pub use opening::{opening_word, put_opening};
 pub use ranges::Range;
