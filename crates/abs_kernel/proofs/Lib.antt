@@ -1,0 +1,6 @@
+pub mod Moved
+pub mod Ends
+pub mod Unserved
+pub mod Lists
+pub mod Critical
+pub mod UserSteps
