@@ -1,14 +1,13 @@
 -- SYSCALL 1 and a later SYSCALL 2 give the interrupt state back.
-use Rattle.std.proofs.Common.{◌≡◌, ℕ, zero, suc, Bool, true, false, refl, sym, ap, ◌∙◌, arith}
+use Rattle.std.proofs.Common.{◌≡◌, ℕ, Bool, true, false, refl, sym, ap, ◌∙◌, arith}
 use Rattle.std.specs.Prelude.{if◌then◌else◌}
 use Rattle.psx_base.specs.Items.{Entrance, BySyscall}
 use Rattle.psx_base.specs.KernelState.{KernelState}
 use Rattle.abs_kernel.specs.Cause.{entrance_of}
 use Rattle.abs_kernel.specs.Stay.{Stay, Return, Halt, Ask, Tell, Write, Touch}
-use Rattle.abs_kernel.specs.Answered.{registers_of}
-use Rattle.abs_kernel.specs.Sys.{syscall, enter_critical}
+use Rattle.abs_kernel.specs.Sys.{syscall}
 use Rattle.abs_kernel.specs.KernelStep.{settled_state, by_entrance, stay_of}
-use Rattle.abs_kernel.specs.StayLaws.{settled_registers, CriticalSection, InterruptsGivenBack}
+use Rattle.abs_kernel.specs.StayLaws.{settled_registers, InterruptsGivenBack}
 
 -- the stay of a SYSCALL is that of its number
 stay_is : (s : KernelState) (code n : ℕ) → entrance_of s.running.context code ≡ BySyscall → (settled_registers s).r4 ≡ n → stay_of s code ≡ syscall n (settled_state s)
@@ -41,9 +40,12 @@ was_off false h = refl
 was_off true h = absurd (omega arith)
 
 pub interrupts_given_back : InterruptsGivenBack
-interrupts_given_back s code e h =
-    (_, stay_is s code 1 e h, record {
-      off = refl;
-      was_on = λ a later last code' e' h' r. turned_on later last code' e' h' r ∙ sym (was_on s.running.interrupts a);
-      was_off = λ a. sym (was_off s.running.interrupts a);
-    })
+interrupts_given_back s code e h = (
+  _,
+  stay_is s code 1 e h,
+  record {
+    off = refl;
+    was_on = λ a later last code' e' h' r. turned_on later last code' e' h' r ∙ sym (was_on s.running.interrupts a);
+    was_off = λ a. sym (was_off s.running.interrupts a);
+  },
+)

@@ -1,12 +1,12 @@
 -- The ends of the stays: each halts with the memory as it is, or returns at rest with the running context changed alone.
-use Rattle.std.proofs.Common.{◌≡◌, ℕ, zero, suc, ◌+◌, ◌%◌, ◌^◌, Bool, true, false, refl, sym, ◌∙◌, Option, Some, None}
+use Rattle.std.proofs.Common.{◌≡◌, ℕ, zero, suc, ◌%◌, ◌^◌, Bool, true, false, refl, sym, ◌∙◌, Option, Some, None}
 use Rattle.std.specs.Prelude.{if◌then◌else◌}
 use Rattle.std.proofs.lemmas.Bool.{false≢true}
 use Rattle.psx_base.specs.declared.stop.Stop.{Stop}
 use Rattle.psx_base.specs.declared.stop.Table.{Table}
 use Rattle.psx_base.specs.declared.stop.Table.TheVariants.{A, B, C}
 use Rattle.psx_base.specs.Memory.{Memory}
-use Rattle.psx_base.specs.Context.{Context, settle, taken, IsAtRest}
+use Rattle.psx_base.specs.Context.{Context, taken, IsAtRest}
 use Rattle.psx_base.specs.Items.{Entrance, ByA, ByB, ByC, BySyscall, ByInterrupt, ByDone, ByBack, ByTrap}
 use Rattle.psx_base.specs.KernelState.{KernelState}
 use Rattle.kern_layout.specs.Valid.{Valid, RunningFits}
@@ -15,7 +15,7 @@ use Rattle.abs_kernel.specs.declared.calls.CallId.TheVariants.{A06, A3A, A3C, B3
 use Rattle.abs_kernel.specs.CallTable.{served_call}
 use Rattle.abs_kernel.specs.Cause.{entrance_of}
 use Rattle.abs_kernel.specs.Answered.{registers_of, with_answer, answered}
-use Rattle.abs_kernel.specs.Calls.{call, by_row, by_table}
+use Rattle.abs_kernel.specs.Calls.{call, by_row}
 use Rattle.abs_kernel.specs.Sys.{behind_syscall, syscall}
 use Rattle.abs_kernel.specs.KernelStep.{settled_state, by_entrance, stay_of}
 use Rattle.abs_kernel.proofs.Moved.{valid_moved}

@@ -1,4 +1,5 @@
 pub mod Moved
+pub mod Entries
 pub mod Ends
 pub mod Unserved
 pub mod Lists

@@ -1,12 +1,12 @@
 -- The list form of stays.
-use Rattle.std.proofs.Common.{◌≡◌, ◌≢◌, ℕ, List, [], ◌∷◌, ◌++◌, refl, sym, ap, ◌∙◌, subst}
+use Rattle.std.proofs.Common.{◌≡◌, ℕ, List, [], ◌∷◌, refl, ap, subst}
 use Rattle.psx_base.specs.declared.stop.Stop.{Stop}
 use Rattle.psx_base.specs.Memory.{Memory}
 use Rattle.psx_base.specs.KernelState.{KernelState}
 use Rattle.kern_layout.specs.Valid.{Valid}
 use Rattle.abs_kernel.specs.Stay.{Stay, Return, Halt, Ask, Tell, Write, Touch}
 use Rattle.abs_kernel.specs.KernelStep.{stay_of}
-use Rattle.abs_kernel.specs.Played.{Access, Asked, Told, Written, End, Returned, Halted, Short, Played, after, played, answers_of}
+use Rattle.abs_kernel.specs.Played.{Asked, Told, Written, End, Returned, Halted, Short, after, played}
 use Rattle.abs_kernel.specs.StayLaws.{EachEnd, PlayedKeeps, HaltedKeeps, AnswersInOrder, MoreAnswers, EnoughAnswers}
 use Rattle.abs_kernel.proofs.Ends.{memory_kept, valid_kept}
 
@@ -29,9 +29,10 @@ of_end_is : (P : KernelState → Type 0) (Q : Stop → Memory → Type 0) (stay 
 of_end_is P Q stay answers end h e = subst (OfEnd P Q) e (of_end P Q stay answers h)
 
 pub played_keeps : PlayedKeeps
-played_keeps s t code answers e =
-    (λ v. of_end_is Valid (λ stop memory. Unit {0}) (stay_of s code) answers (Returned t) (valid_kept s code v) e,
-     of_end_is (λ u. u.memory ≡ s.memory) (λ stop memory. memory ≡ s.memory) (stay_of s code) answers (Returned t) (memory_kept s code) e)
+played_keeps s t code answers e = (
+  λ v. of_end_is Valid (λ stop memory. Unit {0}) (stay_of s code) answers (Returned t) (valid_kept s code v) e,
+  of_end_is (λ u. u.memory ≡ s.memory) (λ stop memory. memory ≡ s.memory) (stay_of s code) answers (Returned t) (memory_kept s code) e,
+)
 
 pub halted_keeps : HaltedKeeps
 halted_keeps s code answers stop memory e = of_end_is (λ u. u.memory ≡ s.memory) (λ stop memory. memory ≡ s.memory) (stay_of s code) answers (Halted stop memory) (memory_kept s code) e

@@ -6,8 +6,7 @@ use Rattle.psx_base.specs.declared.stop.Stop.TheVariants.{Unserved}
 use Rattle.psx_base.specs.Context.{epc_of}
 use Rattle.psx_base.specs.Items.{Entrance}
 use Rattle.psx_base.specs.KernelState.{KernelState}
-use Rattle.abs_kernel.specs.Cause.{entrance_of}
-use Rattle.abs_kernel.specs.Stay.{Stay, Halt}
+use Rattle.abs_kernel.specs.Stay.{Halt}
 use Rattle.abs_kernel.specs.Calls.{by_row}
 use Rattle.abs_kernel.specs.Sys.{syscall}
 use Rattle.abs_kernel.specs.KernelStep.{settled_state, by_entrance, stay_of}

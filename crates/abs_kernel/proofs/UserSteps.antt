@@ -1,22 +1,21 @@
 -- A step of user code keeps a valid state valid: only the running context and the memory change, and a delay slot is entered from a branch in user memory.
-use Rattle.std.proofs.Common.{◌≡◌, ℕ, ◌+◌, ◌-◌, ◌*◌, ◌/◌, ◌%◌, ◌^◌, ◌<◌, ◌≤◌, Bool, true, false, IsTrue, Option, Some, None, refl, sym, ap, ◌∙◌, subst, arith}
-use Rattle.std.specs.Prelude.{if◌then◌else◌, ◌||◌, ◌&&◌, not, is_some, nat_eq}
+use Rattle.std.proofs.Common.{◌≡◌, ℕ, ◌+◌, ◌-◌, ◌%◌, ◌^◌, ◌<◌, Bool, true, false, IsTrue, Option, Some, None, refl, sym, ◌∙◌, subst, arith}
+use Rattle.std.specs.Prelude.{if◌then◌else◌, ◌||◌, ◌&&◌, is_some, nat_eq}
 use Rattle.std.proofs.lemmas.Bool.{false≢true}
 use Rattle.std.proofs.lemmas.Option.{none-some}
 use Rattle.psx_ins.specs.declared.ins.Ins.{Ins}
 use Rattle.psx_ins.specs.declared.ins.Ins.TheVariants.{SYSCALL, BREAK, JR, JALR, BLTZ, BGEZ, BLTZAL, BGEZAL, J, JAL, BEQ, BNE, BLEZ, BGTZ, RFE}
 use Rattle.psx_ins.specs.Decoding.{instruction_of}
-use Rattle.psx_base.specs.Addresses.{user, top, low, is_mirrored, gate_of}
+use Rattle.psx_base.specs.Addresses.{user, gate_of}
 use Rattle.psx_base.specs.Memory.{Memory}
 use Rattle.psx_base.specs.Context.{Context}
-use Rattle.psx_base.specs.KernelState.{KernelState}
 use Rattle.psx_cpu.specs.Processor.{Cop0, Trap, idle}
 use Rattle.psx_cpu.specs.DataAccess.{read_word}
 use Rattle.psx_cpu.specs.Effect.{effect}
 use Rattle.psx_cpu.specs.Traps.{DataUse, data_use, is_aligned, own_trap}
-use Rattle.psx_cpu.specs.Guard.{is_branch, is_protected, guard_data, guard_instruction, guard_word, guard}
+use Rattle.psx_cpu.specs.Guard.{is_branch, is_protected, guard_data, guard_instruction, guard_word}
 use Rattle.psx_cpu.specs.UserStep.{UserMove, Next, Raises, Halts, user_performed, user_step}
-use Rattle.kern_layout.specs.Valid.{Valid, RunningFits}
+use Rattle.kern_layout.specs.Valid.{RunningFits}
 use Rattle.abs_kernel.specs.UserLaws.{UserStepKeepsValid}
 use Rattle.abs_kernel.proofs.Moved.{valid_moved}
 

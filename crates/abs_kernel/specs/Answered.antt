@@ -2,7 +2,7 @@
 use Rattle.std.specs.Prelude.{ℕ}
 use Rattle.psx_base.specs.Registers.{Registers}
 use Rattle.psx_base.specs.Context.{Context, epc_of, taken}
-use Rattle.psx_base.specs.KernelState.{ThreadContext, KernelState}
+use Rattle.psx_base.specs.KernelState.{KernelState}
 use Rattle.abs_kernel.specs.Stay.{Stay, Return}
 
 -- the running registers

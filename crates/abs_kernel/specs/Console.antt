@@ -1,4 +1,4 @@
--- Console output (PSX-SPX, Kernel (BIOS), TTY Console: putchar).
+-- Console output (PSX-SPX, Kernel (BIOS), TTY Console (std_io): putchar).
 use Rattle.std.specs.Prelude.{◌%◌, ◌^◌}
 use Rattle.psx_base.specs.KernelState.{KernelState}
 use Rattle.abs_kernel.specs.Stay.{Stay, Write}

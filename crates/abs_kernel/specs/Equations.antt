@@ -1,6 +1,6 @@
 -- Stays evaluated, one for each cause, on states in which thread 0 of four runs and nothing else is there.
 use Rattle.std.specs.Prelude.{◌≡◌, ℕ, ◌+◌, Bool, true, false, [], ◌∷◌, Some, None}
-use Rattle.psx_base.specs.declared.stop.Table.TheVariants.{A, B, C, Sys}
+use Rattle.psx_base.specs.declared.stop.Table.TheVariants.{A, C, Sys}
 use Rattle.psx_base.specs.declared.stop.Stop.TheVariants.{Exit, Exception, Unserved, BadReturn}
 use Rattle.psx_base.specs.Memory.{no_bytes}
 use Rattle.psx_base.specs.Registers.{Registers, no_registers}

@@ -1,4 +1,4 @@
--- The end of a program (PSX-SPX, Kernel (BIOS), Program Exec Functions: exit and _exit; the gate D0h is this project's own).
+-- The end of a program (PSX-SPX, Kernel (BIOS), Misc Functions: exit and _exit; the gate D0h is this project's own).
 use Rattle.psx_base.specs.declared.stop.Stop.TheVariants.{Exit}
 use Rattle.psx_base.specs.KernelState.{KernelState}
 use Rattle.abs_kernel.specs.Stay.{Stay, Halt}

@@ -9,6 +9,7 @@ pub mod Sys
 pub mod KernelStep
 pub mod Played
 pub mod Touched
+pub mod CauseLaws
 pub mod StayLaws
 pub mod UserLaws
 pub mod Equations

@@ -1,11 +1,11 @@
--- The SYSCALLs outside the gates, by r4 (PSX-SPX, Kernel (BIOS), Exception Handling: EnterCriticalSection and ExitCriticalSection).
+-- The SYSCALLs outside the gates, by r4 (PSX-SPX, Kernel (BIOS), Interrupt/Exception Handling: EnterCriticalSection and ExitCriticalSection).
 use Rattle.std.specs.Prelude.{ℕ, zero, suc, ◌+◌, ◌%◌, ◌^◌, Bool, true, false, if◌then◌else◌}
 use Rattle.psx_base.specs.declared.stop.Table.TheVariants.{Sys}
 use Rattle.psx_base.specs.declared.stop.Stop.TheVariants.{Unserved}
 use Rattle.psx_base.specs.Context.{Context, epc_of, taken}
 use Rattle.psx_base.specs.KernelState.{KernelState}
 use Rattle.abs_kernel.specs.Stay.{Stay, Return, Halt}
-use Rattle.abs_kernel.specs.Answered.{registers_of, with_running, with_answer, goes_on}
+use Rattle.abs_kernel.specs.Answered.{with_running, with_answer, goes_on}
 
 -- the address behind the SYSCALL
 abbrev pub behind_syscall : Context → ℕ

@@ -7,15 +7,15 @@ use psx_base::Table;
 /// A call that is served, by its table's letter and the two digits of its number.
 #[derive(Clone, Copy, PartialEq, Eq, Debug)]
 pub enum CallId {
-    /// exit.
+    /// exit(code): the program ends with a code.
     A06,
-    /// _exit.
+    /// _exit(code): the same.
     A3A,
-    /// putchar.
+    /// putchar(c): writes the low byte to the console, and answers it.
     A3C,
-    /// exit, in table B.
+    /// exit(code), in table B.
     B38,
-    /// putchar, in table B.
+    /// putchar(c), in table B.
     B3D,
 }
 

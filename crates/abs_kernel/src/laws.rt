@@ -1,10 +1,17 @@
 //! The laws of the written kernel machine: each function's contract is the law, for every state, and the function does nothing.
+ghost use Rattle.abs_kernel.specs.CauseLaws.{EntriesKept, EntriesTold};
 ghost use Rattle.abs_kernel.specs.StayLaws.{UnservedStops, MemoryKept, RestKept, ReturnsAtRest, ValidKept, PlayedKeeps, HaltedKeeps, AnswersInOrder, MoreAnswers, EnoughAnswers, InterruptsGivenBack};
 ghost use Rattle.abs_kernel.specs.UserLaws.{UserStepKeepsValid};
 
-/// A stay of a number that isn't served stops with the table, the number and r31, of a SYSCALL EPC.
+/// After an entry the processor has it in Cause, EPC and its registers, and by these it can be told by what the kernel was entered.
 ///
 /// It does nothing, as each function of this file.
+pub fn entries()
+    ensures kept { EntriesKept }
+    ensures told { EntriesTold }
+{}
+
+/// A stay of a number that isn't served stops with the table, the number and r31, of a SYSCALL EPC.
 pub fn unserved_numbers()
     ensures { UnservedStops }
 {}
