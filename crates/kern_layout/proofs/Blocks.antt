@@ -1,5 +1,5 @@
 -- Blocks, rows and stacks: what a store leaves of them, and what it makes of them.
-use Rattle.std.proofs.Common.{◌≡◌, ℕ, zero, suc, ◌+◌, ◌-◌, ◌*◌, ◌%◌, ◌<◌, ◌≤◌, Bool, true, false, cond, List, [], ◌∷◌, length, refl, sym, ap, ◌∙◌, subst, arith, inl, inr, ⊎_elim, get_or, set, get_or-set_same, get_or-set_other}
+use Rattle.std.proofs.Common.{◌≡◌, ℕ, suc, ◌+◌, ◌*◌, ◌%◌, ◌<◌, ◌≤◌, Bool, true, cond, List, [], ◌∷◌, length, refl, sym, ap, ◌∙◌, subst, arith, inl, inr, ⊎_elim, get_or-set_same, get_or-set_other}
 use Rattle.std.specs.Prelude.{◌⊎◌, nat_le, nat_lt, nat_eq, ◌&&◌, slice_index_or, slice_set}
 use Rattle.std.proofs.Math.Nat.{mul-le-mul_left}
 use Rattle.std.proofs.lemmas.List.{length-set, same_lists, get_or_default}
@@ -43,6 +43,7 @@ block_put w at o v (y ∷ f) h = (⊎_elim (λ e. here e) (λ ne. other ne) (cas
   where
     here : y.0 ≡ o → put w (at + o) v (at + y.0) ≡ cond (nat_eq y.0 o) v y.1
     here e = ap (λ k. put w (at + o) v (at + k)) e ∙ put_here w (at + o) v ∙ sym (ap (λ b. cond b v y.1) (eq-eqb y.0 o e))
+
     other : (y.0 ≡ o → ⊥) → put w (at + o) v (at + y.0) ≡ cond (nat_eq y.0 o) v y.1
     other ne = put_other w (at + o) v (at + y.0) (λ e. ne (omega arith)) ∙ h.0 ∙ sym (ap (λ b. cond b v y.1) (ne_eqb y.0 o ne))
 

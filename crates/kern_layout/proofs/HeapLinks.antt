@@ -1,10 +1,10 @@
 -- The heap's linked table: lists without an entry and with it.
-use Rattle.std.proofs.Common.{◌≡◌, ℕ, zero, suc, ◌+◌, ◌-◌, ◌*◌, ◌%◌, ◌<◌, ◌≤◌, Bool, true, false, cond, List, [], ◌∷◌, ◌++◌, length, refl, sym, ap, ◌∙◌, subst, arith, inl, inr, ⊎_elim}
+use Rattle.std.proofs.Common.{◌≡◌, ℕ, zero, suc, ◌+◌, ◌-◌, ◌%◌, ◌<◌, ◌≤◌, Bool, true, false, cond, List, [], ◌∷◌, ◌++◌, length, refl, sym, ap, ◌∙◌, subst, arith, inl, inr, ⊎_elim}
 use Rattle.std.specs.Prelude.{◌⊎◌}
 use Rattle.std.proofs.lemmas.List.{length-append}
-use Rattle.std.proofs.lemmas.Bool.{cases_eq, cases_lt}
+use Rattle.std.proofs.lemmas.Bool.{cases_lt}
 use Rattle.psx_base.specs.KernelState.{Heap}
-use Rattle.kern_layout.specs.Fields.{Fields, Block}
+use Rattle.kern_layout.specs.Fields.{Block}
 use Rattle.kern_layout.specs.HeapTable.{IsEntry, entry_fields, Linked, Spare, HeapAt, cell_at}
 use Rattle.kern_layout.proofs.Kept.{entry_place}
 
@@ -144,13 +144,15 @@ entries_apart f e i j ne o lt = ⊎_elim (λ l. inl (omega (arith, i.2, j.2, l))
 
 others : (w x : ℕ → ℕ) (d e : ℕ) → IsEntry e → (d ≡ 0xEA40) ⊎ IsEntry d → LinkKept w x d e → (f : ℕ) → IsEntry f → (f ≡ e → ⊥) → (x (f + 4) ≡ w (f + 4)) × (x (f + 8) ≡ w (f + 8)) × ((f ≡ d → ⊥) → x f ≡ w f)
 others w x d e ie id kept f if ne =
-    let at = entry_place f if in
-    (kept (f + 4) (omega (arith, at.2)) (omega (arith, at.0)) (omega (arith, at.1)) (λ q. off 4 (omega arith) (omega arith) q) (out 4 (omega arith)),
-    kept (f + 8) (omega (arith, at.2)) (omega (arith, at.0)) (omega (arith, at.1)) (λ q. off 8 (omega arith) (omega arith) q) (out 8 (omega arith)),
-    λ nd. kept f at.2 at.0 (omega (arith, at.1)) nd (⊎_elim (λ l. inl (omega (arith, l))) (λ g. inr (omega (arith, g))) (entries_apart f e if ie ne 0 (omega arith))))
+    let at = entry_place f if in (
+      kept (f + 4) (omega (arith, at.2)) (omega (arith, at.0)) (omega (arith, at.1)) (λ q. off 4 (omega arith) (omega arith) q) (out 4 (omega arith)),
+      kept (f + 8) (omega (arith, at.2)) (omega (arith, at.0)) (omega (arith, at.1)) (λ q. off 8 (omega arith) (omega arith) q) (out 8 (omega arith)),
+      λ nd. kept f at.2 at.0 (omega (arith, at.1)) nd (⊎_elim (λ l. inl (omega (arith, l))) (λ g. inr (omega (arith, g))) (entries_apart f e if ie ne 0 (omega arith))),
+    )
   where
     out : (o : ℕ) → o < 12 → (f + o < e) ⊎ (e + 12 ≤ f + o)
     out o lt = entries_apart f e if ie ne o lt
+
     off : (o : ℕ) → 0 < o → o < 12 → f + o ≡ d → ⊥
     off o pos lt q = ⊎_elim (λ v. omega (arith, v, q, if.1, if.2)) (λ n. omega (arith, n.1, n.2, q, if.2)) id
 
@@ -173,8 +175,8 @@ heap_entry w x h xs ys y z d e is sized de ee same new kept old =
     let ne : d ≡ e → ⊥ = λ q. let l : suc (length ys) ≡ length ys = linked_length w d e (y ∷ ys) ys q k more in omega (arith, l) in
     let K = others w x d e ie id (λ a m lo up nd out. kept a m lo (omega (arith, up)) out) in
     let xd : x d ≡ w d = ⊎_elim
-        (λ v. kept d (omega (arith, v)) (omega (arith, v)) (omega (arith, v)) (inr (omega (arith, v, at.1))))
-        (λ i. let p = entry_place d i in kept d p.2 p.0 (omega (arith, p.1)) (⊎_elim (λ l. inl (omega (arith, l))) (λ g. inr (omega (arith, g))) (entries_apart d e i ie ne 0 (omega arith)))) id in
+    (λ v. kept d (omega (arith, v)) (omega (arith, v)) (omega (arith, v)) (inr (omega (arith, v, at.1))))
+    (λ i. let p = entry_place d i in kept d p.2 p.0 (omega (arith, p.1)) (⊎_elim (λ l. inl (omega (arith, l))) (λ g. inr (omega (arith, g))) (entries_apart d e i ie ne 0 (omega arith)))) id in
     let used : IsNotSpare w e = λ i q. (sized_behind xs (y ∷ ys) (subst Sized is sized)).0 (sym k.1.0 ∙ ap (λ c. w (c + 4)) (sym ee) ∙ q) in
     let free : IsNotSpare w d = subst (λ q. IsNotSpare w q) (sym de) (cell_not_spare w 0xEA40 xs (y ∷ ys) all (subst Sized is sized) (first_not_spare w)) in
     record {

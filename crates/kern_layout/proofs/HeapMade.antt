@@ -1,11 +1,10 @@
 -- Words of the heap's table: the blocks in the first entries, in order, and the spare entries behind them.
-use Rattle.std.proofs.Common.{◌≡◌, ℕ, zero, suc, ◌+◌, ◌-◌, ◌*◌, ◌/◌, ◌%◌, ◌<◌, ◌≤◌, Bool, true, false, cond, List, [], ◌∷◌, length, refl, sym, ap, ◌∙◌, subst, arith}
+use Rattle.std.proofs.Common.{◌≡◌, ℕ, zero, suc, ◌+◌, ◌-◌, ◌*◌, ◌/◌, ◌%◌, ◌<◌, ◌≤◌, Bool, false, cond, List, [], ◌∷◌, length, refl, sym, ap, ◌∙◌, subst, arith}
 use Rattle.std.specs.Prelude.{◌||◌, nat_lt, nat_eq, slice_index_or}
 use Rattle.std.proofs.lemmas.Bool.{eq-eqb, ne_eqb}
 use Rattle.psx_base.specs.KernelState.{Heap}
 use Rattle.kern_layout.specs.Fields.{Block}
 use Rattle.kern_layout.specs.HeapTable.{IsEntry, entry_fields, Linked, Spare, HeapAt}
-use Rattle.kern_layout.proofs.Made.{chosen, passed}
 
 abbrev pub Blocks : Type 0
 Blocks = List (ℕ × Bool)
@@ -56,18 +55,22 @@ module _ (w : ℕ → ℕ) (bs : Blocks) (few : length bs ≤ 512) (s : (a : ℕ
       let lt : k < 512 = omega (arith, few) in
       let e : w cell ≡ 0xD000 + 12 * k = c ∙ link_on (length bs) k (λ q. omega arith) (λ q. omega (arith, few)) in
       let here : slice_index_or bs k no_block ≡ b = ap (λ j. slice_index_or bs j no_block) (let z : k ≡ k + 0 = omega arith in z) ∙ same 0 (omega arith) in
-      subst (λ z. IsEntry z × Block w z (entry_fields b) × Linked w z rest) (sym e)
-      ((k, lt, refl), (entry k 4 lt (omega arith) refl ∙ ap (λ (x : ℕ × Bool). x.0) here, (entry k 8 lt (omega arith) refl ∙ ap (λ (x : ℕ × Bool). cond x.1 1 0) here, tt)),
-      linked_from (suc k) (0xD000 + 12 * k) rest (next k lt) (omega arith) (λ j l. ap (λ i. slice_index_or bs i no_block) (let z : suc k + j ≡ k + suc j = omega arith in z) ∙ same (suc j) (omega arith)))
+      subst (λ z. IsEntry z × Block w z (entry_fields b) × Linked w z rest) (sym e) (
+        (k, lt, refl),
+        (entry k 4 lt (omega arith) refl ∙ ap (λ (x : ℕ × Bool). x.0) here, (entry k 8 lt (omega arith) refl ∙ ap (λ (x : ℕ × Bool). cond x.1 1 0) here, tt)),
+        linked_from (suc k) (0xD000 + 12 * k) rest (next k lt) (omega arith) (λ j l. ap (λ i. slice_index_or bs i no_block) (let z : suc k + j ≡ k + suc j = omega arith in z) ∙ same (suc j) (omega arith)),
+      )
 
   spare_from : (n k cell : ℕ) → w cell ≡ spare_link k → k + n ≡ 512 → length bs ≤ k → Spare w cell n
   spare_from zero k cell c len le = c ∙ ap (λ x. cond x 0 (0xD000 + 12 * k)) (eq-eqb k 512 (omega arith))
   spare_from (suc n) k cell c len le =
       let lt : k < 512 = omega arith in
       let e : w cell ≡ 0xD000 + 12 * k = c ∙ spare_on k (λ q. omega arith) in
-      subst (λ z. IsEntry z × (w (z + 4) ≡ 0) × Spare w z n) (sym e)
-      ((k, lt, refl), entry k 4 lt (omega arith) refl ∙ ap (λ (x : ℕ × Bool). x.0) (Rattle.std.proofs.lemmas.List.get_or_past bs k no_block le),
-      spare_from n (suc k) (0xD000 + 12 * k) (next k lt ∙ link_spare (length bs) (suc k) (λ q. omega arith)) (omega arith) (omega arith))
+      subst (λ z. IsEntry z × (w (z + 4) ≡ 0) × Spare w z n) (sym e) (
+        (k, lt, refl),
+        entry k 4 lt (omega arith) refl ∙ ap (λ (x : ℕ × Bool). x.0) (Rattle.std.proofs.lemmas.List.get_or_past bs k no_block le),
+        spare_from n (suc k) (0xD000 + 12 * k) (next k lt ∙ link_spare (length bs) (suc k) (λ q. omega arith)) (omega arith) (omega arith),
+      )
 
   pub heap_made : (h : Heap) → h.blocks ≡ bs → w 0xEA40 ≡ link (length bs) 0 → w 0xEA44 ≡ spare_link (length bs) → HeapAt w h
   heap_made h is first spare = record {

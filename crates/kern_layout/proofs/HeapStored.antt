@@ -1,13 +1,13 @@
 -- The state after stores in the heap's table, and in the line.
-use Rattle.std.proofs.Common.{◌≡◌, ℕ, zero, suc, ◌+◌, ◌-◌, ◌*◌, ◌%◌, ◌<◌, ◌≤◌, Bool, true, false, cond, List, [], ◌∷◌, ◌++◌, length, refl, sym, ap, ◌∙◌, subst, arith, inl, inr, ⊎_elim, get_or-set_same, get_or-set_other}
+use Rattle.std.proofs.Common.{◌≡◌, ℕ, suc, ◌+◌, ◌-◌, ◌<◌, ◌≤◌, Bool, List, [], ◌∷◌, ◌++◌, length, refl, sym, ap, ◌∙◌, subst, arith, inl, inr, ⊎_elim, get_or-set_same, get_or-set_other}
 use Rattle.std.specs.Prelude.{◌⊎◌, All, slice_index, slice_set}
 use Rattle.std.proofs.lemmas.List.{length-set}
 use Rattle.std.proofs.lemmas.Bool.{cases_eq}
 use Rattle.psx_base.specs.KernelState.{Heap, KernelState}
-use Rattle.kern_layout.specs.Fields.{Fields, Block}
+use Rattle.kern_layout.specs.Fields.{Block}
 use Rattle.kern_layout.specs.Stores.{Same, SameBytes, put, with_field}
 use Rattle.kern_layout.specs.HeapTable.{IsEntry, entry_fields, Linked, HeapAt, cell_at, LinksWritten}
-use Rattle.kern_layout.specs.Reads.{Reads, LineAt}
+use Rattle.kern_layout.specs.Reads.{Reads}
 use Rattle.kern_layout.specs.Valid.{Valid, BlockFits}
 use Rattle.kern_layout.proofs.Blocks.{block_put, put_here, put_other}
 use Rattle.kern_layout.proofs.Kept.{entry_place}

@@ -1,15 +1,14 @@
 -- Each reading depends on its own range alone.
-use Rattle.std.proofs.Common.{◌≡◌, ℕ, zero, suc, ◌+◌, ◌-◌, ◌*◌, ◌%◌, ◌<◌, ◌≤◌, Bool, true, false, cond, List, [], ◌∷◌, length, refl, sym, ap, ◌∙◌, subst, arith, inl, inr, ⊎_elim, get_or}
-use Rattle.std.specs.Prelude.{◌⊎◌, nat_eq, Option, Some, None, slice_index_or, slice_index, All}
-use Rattle.std.proofs.Math.Nat.{mul-le-mul_left}
-use Rattle.psx_base.specs.KernelState.{ThreadContext, Thread, Free, Used, Event, Task, Element, Second, Line, Scan, Frame, Heap, KernelState}
-use Rattle.kern_layout.specs.Fields.{Fields, Block, Rows, Stack}
-use Rattle.kern_layout.specs.Stores.{Same, Kept, SameBytes}
+use Rattle.std.proofs.Common.{◌≡◌, ℕ, zero, suc, ◌+◌, ◌-◌, ◌*◌, ◌%◌, ◌≤◌, Bool, true, false, cond, List, [], ◌∷◌, length, refl, sym, ◌∙◌, subst, arith}
+use Rattle.std.specs.Prelude.{nat_eq, Option, Some, None, slice_index_or, All}
+use Rattle.psx_base.specs.KernelState.{Thread, Free, Used, Event, Task, Element, Second, Line, Scan, Frame, Heap, KernelState}
+use Rattle.kern_layout.specs.Fields.{Fields, Block, Rows}
+use Rattle.kern_layout.specs.Stores.{Same, SameBytes}
 use Rattle.kern_layout.specs.Contexts.{saved, thread_fields}
 use Rattle.kern_layout.specs.Tasks.{under_way_fields, count_fields, elements_of, lines_of, TasksAt, FrameAt}
 use Rattle.kern_layout.specs.HeapTable.{IsEntry, entry_fields, Linked, Spare, HeapAt}
-use Rattle.kern_layout.specs.Reads.{Reads, event_fields, no_event, file_fields, no_frame, FramesAt, frame_at, ChainAt, ChainsAt, chain_at, LineAt, variables}
-use Rattle.kern_layout.specs.Valid.{Valid, TasksFit, FrameFits, ChainFits}
+use Rattle.kern_layout.specs.Reads.{event_fields, no_event, file_fields, no_frame, FramesAt, frame_at, ChainAt, ChainsAt, chain_at, LineAt, variables}
+use Rattle.kern_layout.specs.Valid.{FrameFits, ChainFits}
 use Rattle.kern_layout.proofs.Blocks.{inside, block_same, stack_same, rows_same}
 
 -- ---- threads, events, files
@@ -49,7 +48,7 @@ files_kept fs few w x s old = rows_same 0xE800 4 file_fields None file_aligned f
 
 -- ---- frames
 
-fit_under_way : (ts : List Task) → inside 0x98 0xA8 (under_way_fields ts) ≡ true
+pub fit_under_way : (ts : List Task) → inside 0x98 0xA8 (under_way_fields ts) ≡ true
 fit_under_way [] = refl
 fit_under_way (Element e ∷ ts) = refl
 fit_under_way (Second e ∷ ts) = refl

@@ -14,3 +14,4 @@ pub mod HeapStored
 pub mod StandsMade
 pub mod MemoryStored
 pub mod OpeningRead
+pub mod Copied

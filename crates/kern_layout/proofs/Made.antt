@@ -1,15 +1,14 @@
 -- For each valid state there are words and bytes that read as it.
-use Rattle.std.proofs.Common.{◌≡◌, ℕ, zero, suc, ◌+◌, ◌-◌, ◌*◌, ◌/◌, ◌%◌, ◌<◌, ◌≤◌, Bool, true, false, cond, List, [], ◌∷◌, ◌++◌, length, refl, sym, ap, ◌∙◌, subst, arith, inl, inr, ⊎_elim}
-use Rattle.std.specs.Prelude.{◌⊎◌, ◌&&◌, ◌||◌, nat_le, nat_lt, nat_eq, Option, Some, None, slice_index_or, slice_index, All}
+use Rattle.std.proofs.Common.{◌≡◌, ℕ, suc, ◌+◌, ◌-◌, ◌*◌, ◌/◌, ◌%◌, ◌<◌, ◌≤◌, Bool, true, false, cond, List, [], ◌∷◌, length, refl, ap, ◌∙◌, arith}
+use Rattle.std.specs.Prelude.{◌&&◌, nat_le, nat_lt, nat_eq, Option, Some, None, slice_index_or, All}
 use Rattle.std.proofs.Math.Nat.{mul-le-mul_left}
-use Rattle.std.proofs.lemmas.Bool.{and_parts, leb-true, ltb-true, eq-eqb, ne_eqb, lt-ltb, le-ltb, cases_eq, cases_lt}
-use Rattle.psx_base.specs.KernelState.{ThreadContext, Thread, Free, Used, Event, Task, Element, Second, Line, Scan, Frame, Heap, KernelState}
+use Rattle.std.proofs.lemmas.Bool.{and_parts, leb-true, ltb-true, eq-eqb, ne_eqb, lt-ltb, le-ltb}
+use Rattle.psx_base.specs.KernelState.{Thread, Free, Used, Event, Task, Element, Second, Line, Scan, Frame}
 use Rattle.kern_layout.specs.Fields.{Fields, Block, Rows, Stack}
 use Rattle.kern_layout.specs.Contexts.{saved, thread_fields}
-use Rattle.kern_layout.specs.Tasks.{elements_of, lines_of, under_way_fields, count_fields, TasksAt, FrameAt}
-use Rattle.kern_layout.specs.HeapTable.{IsEntry, entry_fields, Linked, Spare, HeapAt}
-use Rattle.kern_layout.specs.Reads.{Reads, event_fields, no_event, file_fields, no_frame, frame_at, FramesAt, ChainAt, ChainsAt, chain_at, LineAt, variables}
-use Rattle.kern_layout.specs.Valid.{Valid, FrameFits, ChainFits}
+use Rattle.kern_layout.specs.Tasks.{elements_of, lines_of, under_way_fields, count_fields, FrameAt}
+use Rattle.kern_layout.specs.Reads.{event_fields, no_event, file_fields, no_frame, frame_at, FramesAt, ChainsAt}
+use Rattle.kern_layout.specs.Valid.{FrameFits, ChainFits}
 
 -- ---- fields
 
@@ -97,9 +96,10 @@ stack_word xs o = slice_index_or xs (length xs - 1 - o / 4) 0
 
 pub stack_made : (w : ℕ → ℕ) (at : ℕ) (xs : List ℕ) → ((k : ℕ) → k < length xs → w (at + 4 * k) ≡ slice_index_or xs (length xs - 1 - k) 0) → Stack w at xs
 stack_made w at [] s = tt
-stack_made w at (x ∷ xs) s =
-    (s (length xs) (omega arith) ∙ ap (λ k. slice_index_or (x ∷ xs) k 0) (let e : suc (length xs) - 1 - length xs ≡ 0 = omega arith in e),
-    stack_made w at xs (λ k lt. s k (omega arith) ∙ ap (λ j. slice_index_or (x ∷ xs) j 0) (let e : suc (length xs) - 1 - k ≡ suc (length xs - 1 - k) = omega (arith, lt) in e)))
+stack_made w at (x ∷ xs) s = (
+  s (length xs) (omega arith) ∙ ap (λ k. slice_index_or (x ∷ xs) k 0) (let e : suc (length xs) - 1 - length xs ≡ 0 = omega arith in e),
+  stack_made w at xs (λ k lt. s k (omega arith) ∙ ap (λ j. slice_index_or (x ∷ xs) j 0) (let e : suc (length xs) - 1 - k ≡ suc (length xs - 1 - k) = omega (arith, lt) in e)),
+)
 
 -- the branch of a choice by place
 pub chosen : (a n : ℕ) (x y : ℕ) → a < n → cond (nat_lt a n) x y ≡ x
@@ -151,9 +151,9 @@ chains_made w cs four fit s p lt =
     let es = slice_index_or cs p [] in
     let few : length es ≤ 8 = (fit p [] lt).few in
     let all : (o : ℕ) → o < 0x40 → w (0xCF00 + 0x40 * p + o) ≡ chain_word es o = (λ o up.
-        let q : (0xCF00 + 0x40 * p + o - 0xCF00) / 0x40 ≡ p = omega (arith, up) in
-        let r : (0xCF00 + 0x40 * p + o - 0xCF00) % 0x40 ≡ o = omega (arith, up) in
-        s (0xCF00 + 0x40 * p + o) (omega arith) (omega (arith, lt, four, up)) ∙ (λ j. chain_word (slice_index_or cs (q j) []) (r j))) in
+    let q : (0xCF00 + 0x40 * p + o - 0xCF00) / 0x40 ≡ p = omega (arith, up) in
+    let r : (0xCF00 + 0x40 * p + o - 0xCF00) % 0x40 ≡ o = omega (arith, up) in
+    s (0xCF00 + 0x40 * p + o) (omega arith) (omega (arith, lt, four, up)) ∙ (λ j. chain_word (slice_index_or cs (q j) []) (r j))) in
     record {
       count = ap w (let e : 0xCF00 + 0x40 * p ≡ 0xCF00 + 0x40 * p + 0 = omega arith in e) ∙ all 0 (omega arith);
       elements = stack_made w (0xCF00 + 0x40 * p + 4) es (λ k l. ap w (let e : 0xCF00 + 0x40 * p + 4 + 4 * k ≡ 0xCF00 + 0x40 * p + (4 + 4 * k) = omega arith in e) ∙ all (4 + 4 * k) (omega (arith, l, few)) ∙ passed (4 + 4 * k) 4 _ _ (omega arith) ∙ ap (λ j. slice_index_or es (length es - 1 - j) 0) (let e : (4 + 4 * k - 4) / 4 ≡ k = omega arith in e));

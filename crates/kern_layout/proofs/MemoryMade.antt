@@ -1,15 +1,14 @@
 -- For each valid state there is a memory that reads as it.
-use Rattle.std.proofs.Common.{◌≡◌, ℕ, zero, suc, ◌+◌, ◌-◌, ◌*◌, ◌/◌, ◌%◌, ◌<◌, ◌≤◌, Bool, true, false, cond, List, [], ◌∷◌, length, refl, sym, ap, ◌∙◌, subst, arith, inl, inr, ⊎_elim}
-use Rattle.std.specs.Prelude.{◌⊎◌, nat_lt, nat_eq, nat_le, ◌||◌, Option, Some, None, slice_index_or, slice_index}
-use Rattle.std.proofs.lemmas.Bool.{cases_lt, cases_eq, ne_eqb}
+use Rattle.std.proofs.Common.{◌≡◌, ℕ, zero, suc, ◌+◌, ◌-◌, ◌*◌, ◌%◌, ◌<◌, ◌≤◌, true, cond, length, refl, sym, ap, ◌∙◌, subst, arith, inl, inr, ⊎_elim}
+use Rattle.std.specs.Prelude.{◌⊎◌, nat_lt, nat_eq, None, slice_index}
+use Rattle.std.proofs.lemmas.Bool.{cases_eq, ne_eqb}
 use Rattle.psx_base.specs.Memory.{Memory, byte, word, put_word, put_bytes}
 use Rattle.psx_ram.specs.Apart.{apart}
 use Rattle.psx_ram.proofs.Laws.{word-put_word_same, word-put_word_apart, byte-put_word_apart}
 use Rattle.psx_ram.proofs.Bytes.{byte-put_bytes_at, byte-put_bytes_apart, word-put_bytes_apart}
 use Rattle.psx_base.specs.KernelState.{Free, KernelState}
 use Rattle.kern_layout.specs.Contexts.{thread_fields}
-use Rattle.kern_layout.specs.Reads.{Reads, event_fields, no_event, file_fields, frame_at, variables}
-use Rattle.kern_layout.specs.Stores.{Same, SameBytes}
+use Rattle.kern_layout.specs.Reads.{Reads, event_fields, no_event, file_fields, variables}
 use Rattle.kern_layout.specs.Valid.{Valid}
 use Rattle.kern_layout.proofs.Made as made
 use Rattle.kern_layout.proofs.Made.{chosen, passed, look, looked}

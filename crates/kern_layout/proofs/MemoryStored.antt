@@ -1,8 +1,8 @@
 -- A store to memory is the store to its words, and to the bytes of the line.
-use Rattle.std.proofs.Common.{◌≡◌, ℕ, ◌+◌, ◌%◌, ◌<◌, ◌≤◌, Bool, true, refl, sym, ap, ◌∙◌, subst, arith, inl, inr, ⊎_elim}
+use Rattle.std.proofs.Common.{◌≡◌, ℕ, ◌+◌, ◌%◌, ◌<◌, ◌≤◌, true, sym, ap, ◌∙◌, arith, ⊎_elim}
 use Rattle.std.specs.Prelude.{◌⊎◌}
 use Rattle.std.proofs.lemmas.Bool.{cases_eq}
-use Rattle.psx_base.specs.Memory.{Memory, byte, word, put_byte, put_word}
+use Rattle.psx_base.specs.Memory.{word, put_word}
 use Rattle.psx_ram.specs.Apart.{apart}
 use Rattle.psx_ram.proofs.Laws.{word-put_word_same, word-put_word_apart, byte-put_word_apart, word-put_byte_apart, byte-put_byte_same, byte-put_byte_apart}
 use Rattle.kern_layout.specs.Stores.{put}

@@ -1,14 +1,14 @@
 -- Frames that are pushed and dropped, elements of chains, the line, and another running thread.
-use Rattle.std.proofs.Common.{◌≡◌, ℕ, zero, suc, ◌+◌, ◌-◌, ◌*◌, ◌%◌, ◌<◌, ◌≤◌, Bool, true, false, cond, List, [], ◌∷◌, ◌++◌, length, refl, sym, ap, ◌∙◌, subst, arith, inl, inr, ⊎_elim, get_or, take, get_or-set_other, eq-eqb, ne_eqb}
-use Rattle.std.specs.Prelude.{◌⊎◌, nat_eq, Option, Some, None, slice_index_or, slice_index, slice_set, All}
-use Rattle.std.proofs.lemmas.List.{length-set, length-take-le, get_or-take, get_or-set_same}
+use Rattle.std.proofs.Common.{◌≡◌, ℕ, zero, suc, ◌+◌, ◌*◌, ◌%◌, ◌<◌, ◌≤◌, cond, List, [], ◌∷◌, ◌++◌, length, refl, sym, ap, ◌∙◌, subst, arith, inl, inr, ⊎_elim, take, get_or-set_other, eq-eqb, ne_eqb}
+use Rattle.std.specs.Prelude.{◌⊎◌, slice_index_or, slice_set}
+use Rattle.std.proofs.lemmas.List.{length-append, length-set, length-take-le, get_or-take, get_or-set_same}
 use Rattle.std.proofs.lemmas.Bool.{cases_lt, cases_eq}
-use Rattle.psx_base.specs.KernelState.{ThreadContext, Thread, Free, Used, Event, Frame, Heap, KernelState}
-use Rattle.kern_layout.specs.Fields.{Fields, Block, Rows, Stack}
-use Rattle.kern_layout.specs.Stores.{Same, Kept, SameBytes, with_thread}
+use Rattle.psx_base.specs.KernelState.{Thread, Free, Used, Frame, KernelState}
+use Rattle.kern_layout.specs.Fields.{Block, Stack}
+use Rattle.kern_layout.specs.Stores.{Same, SameBytes}
 use Rattle.kern_layout.specs.Contexts.{saved, thread_fields}
 use Rattle.kern_layout.specs.Tasks.{FrameAt}
-use Rattle.kern_layout.specs.Reads.{Reads, thread, no_frame, FramesAt, frame_at, thread_at, ChainAt, LineAt, variables, next_word}
+use Rattle.kern_layout.specs.Reads.{Reads, thread, no_frame, frame_at, thread_at, ChainAt, LineAt, variables, next_word}
 use Rattle.kern_layout.specs.Valid.{Valid}
 use Rattle.kern_layout.proofs.Blocks.{block_same, stack_same}
 use Rattle.kern_layout.proofs.Kept as kept
@@ -80,6 +80,11 @@ reads_popped s v w x b c line n le low mid first high count old = record {
 -- one number more is stored behind the others, which stay
 pub stack_more : (w x : ℕ → ℕ) (at e : ℕ) (es : List ℕ) → at % 4 ≡ 0 → Same at (at + 4 * length es) w x → x (at + 4 * length es) ≡ e → Stack w at es → Stack x at (e ∷ es)
 stack_more w x at e es al s new old = (new, stack_same w x at (at + 4 * length es) es al (omega arith) s old)
+
+-- a list that stands behind another
+pub stack_join : (w : ℕ → ℕ) (at : ℕ) (xs ys : List ℕ) → Stack w at xs → Stack w (at + 4 * length xs) ys → Stack w at (ys ++ xs)
+stack_join w at xs [] h k = h
+stack_join w at xs (y ∷ ys) h k = (ap w (let e : at + 4 * length (ys ++ xs) ≡ at + 4 * length xs + 4 * length ys = omega (arith, length-append ys xs) in e) ∙ k.0, stack_join w at xs ys h k.1)
 
 -- an element is put at the head of a chain: a store behind the others, and the count
 pub chain_more : (w x : ℕ → ℕ) (at e : ℕ) (es : List ℕ) → at % 4 ≡ 0 → Same (at + 4) (at + 4 + 4 * length es) w x → x (at + 4 + 4 * length es) ≡ e → x at ≡ suc (length es) → ChainAt w at es → ChainAt x at (e ∷ es)

@@ -1,18 +1,17 @@
 -- Words read as one state only, but for what they don't show.
-use Rattle.std.proofs.Common.{◌≡◌, ℕ, zero, suc, ◌+◌, ◌-◌, ◌*◌, ◌%◌, ◌^◌, ◌<◌, ◌≤◌, Bool, true, false, cond, List, [], ◌∷◌, ◌++◌, length, refl, sym, ap, ◌∙◌, subst, arith, inl, inr, ⊎_elim, get_or-set_same, get_or-set_other, eq-eqb, ne_eqb}
+use Rattle.std.proofs.Common.{◌≡◌, ℕ, ◌+◌, ◌*◌, ◌%◌, ◌^◌, ◌<◌, Bool, true, false, cond, List, [], ◌∷◌, ◌++◌, length, refl, sym, ap, ◌∙◌, subst, arith, inl, inr, get_or-set_same, get_or-set_other, ne_eqb}
 use Rattle.std.specs.Prelude.{◌⊎◌, Option, Some, None, slice_index_or, slice_index, slice_set, map}
 use Rattle.std.proofs.lemmas.List.{length-set}
 use Rattle.std.proofs.lemmas.Bool.{cases_eq}
-use Rattle.psx_base.specs.Context.{Context, IsAtRest}
-use Rattle.psx_base.specs.Registers.{Registers}
+use Rattle.psx_base.specs.Context.{IsAtRest}
 use Rattle.psx_base.specs.Memory.{no_bytes}
-use Rattle.psx_base.specs.KernelState.{ThreadContext, Thread, Free, Used, Event, Task, Element, Second, Line, Scan, Frame, Heap, KernelState}
-use Rattle.kern_layout.specs.Fields.{Block, Rows, Stack}
+use Rattle.psx_base.specs.KernelState.{ThreadContext, Thread, Free, Used, Event, Task, Element, Second, Line, Scan, Frame, KernelState}
+use Rattle.kern_layout.specs.Fields.{Block, Rows}
 use Rattle.kern_layout.specs.Contexts.{saved, saved_sr_of, thread_fields}
 use Rattle.kern_layout.specs.Tasks.{under_way, elements_of, lines_of, InOrder, under_way_fields, TasksAt, FrameAt}
-use Rattle.kern_layout.specs.Reads.{Reads, event_fields, no_event, file_fields, no_frame, no_context, thread, FramesAt, ChainAt, ChainsAt, LineAt, variables, next_word, frame_at, thread_at}
+use Rattle.kern_layout.specs.Reads.{Reads, event_fields, no_event, file_fields, no_frame, no_context, ChainAt, next_word, frame_at, thread_at}
 use Rattle.kern_layout.specs.Valid.{Valid, ThreadRests, FileFits}
-use Rattle.kern_layout.specs.Hidden.{only_status, hidden}
+use Rattle.kern_layout.specs.Shown.{only_status, shown}
 use Rattle.kern_layout.proofs.Blocks.{lists_one, stack_one}
 use Rattle.kern_layout.proofs.HeapLinks.{linked_one}
 
@@ -184,7 +183,7 @@ threads_one w m n ts us e len a b lt h k =
         ∙ thread_one w (thread_at j) n j (slice_index_or ts j Free) (slice_index_or us j Free) (λ q. ne (q ∙ sym e)) (a j lj) (b j (omega (arith, len, lj))) (h' j lj) (k j (omega (arith, len, lj)))
         ∙ sym (get_or-set_other us n j (only_status (slice_index_or us n Free)) Free (λ q. ne (q ∙ sym e)))
 
-pub reads_one : (w b : ℕ → ℕ) (s t : KernelState) → Valid s → Valid t → Reads s w b → Reads t w b → hidden s ≡ hidden t
+pub reads_one : (w b : ℕ → ℕ) (s t : KernelState) → Valid s → Valid t → Reads s w b → Reads t w b → shown s ≡ shown t
 reads_one w b s t v u h k =
     let p = h.variables in
     let q = k.variables in

@@ -1,13 +1,12 @@
 -- The opening words read as the state at a program's begin.
-use Rattle.std.proofs.Common.{◌≡◌, ℕ, zero, suc, ◌+◌, ◌-◌, ◌*◌, ◌/◌, ◌%◌, ◌<◌, ◌≤◌, Bool, true, false, cond, List, [], ◌∷◌, length, refl, sym, ap, ◌∙◌, subst, arith, inl, inr}
-use Rattle.std.specs.Prelude.{◌⊎◌, ◌&&◌, ◌||◌, nat_eq, nat_lt, Option, Some, None, slice_index_or, replicate}
+use Rattle.std.proofs.Common.{◌≡◌, ℕ, zero, suc, ◌+◌, ◌-◌, ◌*◌, ◌/◌, ◌%◌, ◌<◌, ◌≤◌, cond, [], ◌∷◌, length, refl, sym, ◌∙◌, subst, arith}
+use Rattle.std.specs.Prelude.{◌&&◌, ◌||◌, nat_eq, nat_lt, Some, None, slice_index_or, replicate}
 use Rattle.std.proofs.lemmas.List.{get_or-replicate, length-replicate}
 use Rattle.psx_base.specs.declared.stop.Sizes.{Sizes}
 use Rattle.psx_base.specs.Memory.{Memory}
-use Rattle.psx_base.specs.KernelState.{Thread, Free, Used, Event, Heap, KernelState}
+use Rattle.psx_base.specs.KernelState.{Free, Used}
 use Rattle.kern_layout.specs.Fields.{Block}
 use Rattle.kern_layout.specs.Contexts.{thread_fields}
-use Rattle.kern_layout.specs.HeapTable.{HeapAt}
 use Rattle.kern_layout.specs.Reads.{Reads, no_event, event_fields, file_fields, ChainAt}
 use Rattle.kern_layout.specs.Stores.{put}
 use Rattle.kern_layout.specs.Start.{start, opening, SizesFit}
@@ -89,10 +88,22 @@ module _ (w : ℕ → ℕ) (sizes : Sizes) (fit : SizesFit sizes) (opens : Opens
     heap = heap_made stored [] (omega arith) (λ a al lo up. low a (heap_word [] a) al (omega arith) (omega arith) (heap_words a al lo up)) record { base = 0; blocks = [] } refl (high 0xEA40 0 refl (omega arith) (omega arith) refl) (high 0xEA44 0xD000 refl (omega arith) (omega arith) refl);
     files = files_read;
     line = λ k lt. absurd (omega arith);
-    variables = (low 0xEA00 0 refl (omega arith) (omega arith) refl, (low 0xEA04 0 refl (omega arith) (omega arith) refl, (low 0xEA08 0 refl (omega arith) (omega arith) refl,
-        (put_other (put w 0xEA0C sizes.threads) 0xEA10 sizes.events 0xEA0C (λ q. omega arith) ∙ put_here w 0xEA0C sizes.threads ∙ omega (arith, length-replicate (sizes.threads - 1) Free, fit.threads_least),
-        (put_here (put w 0xEA0C sizes.threads) 0xEA10 sizes.events ∙ sym (length-replicate sizes.events no_event),
-        (high 0xEA14 0 refl (omega arith) (omega arith) refl, (high 0xEA18 0 refl (omega arith) (omega arith) refl, (high 0xEA1C 0 refl (omega arith) (omega arith) refl, (high 0xEA20 0 refl (omega arith) (omega arith) refl, (high 0xEA24 0 refl (omega arith) (omega arith) refl, tt))))))))));
+    variables = (
+      low 0xEA00 0 refl (omega arith) (omega arith) refl,
+      (
+        low 0xEA04 0 refl (omega arith) (omega arith) refl,
+        (
+          low 0xEA08 0 refl (omega arith) (omega arith) refl,
+          (
+            put_other (put w 0xEA0C sizes.threads) 0xEA10 sizes.events 0xEA0C (λ q. omega arith) ∙ put_here w 0xEA0C sizes.threads ∙ omega (arith, length-replicate (sizes.threads - 1) Free, fit.threads_least),
+            (
+              put_here (put w 0xEA0C sizes.threads) 0xEA10 sizes.events ∙ sym (length-replicate sizes.events no_event),
+              (high 0xEA14 0 refl (omega arith) (omega arith) refl, (high 0xEA18 0 refl (omega arith) (omega arith) refl, (high 0xEA1C 0 refl (omega arith) (omega arith) refl, (high 0xEA20 0 refl (omega arith) (omega arith) refl, (high 0xEA24 0 refl (omega arith) (omega arith) refl, tt))))),
+            ),
+          ),
+        ),
+      ),
+    );
   }
 
 pub opens_as_start : OpensAsStart

@@ -1,10 +1,10 @@
 -- Ranges in rising order are apart.
-use Rattle.std.proofs.Common.{◌≡◌, ℕ, zero, suc, ◌<◌, ◌≤◌, Bool, true, false, List, [], ◌∷◌, length, refl, arith, get_or}
+use Rattle.std.proofs.Common.{◌≡◌, ℕ, zero, suc, ◌<◌, ◌≤◌, Bool, true, false, List, [], ◌∷◌, length, arith, get_or}
 use Rattle.std.specs.Prelude.{nat_le, ◌&&◌, ◌||◌}
 use Rattle.std.proofs.lemmas.Bool.{and_parts, leb-true}
 use Rattle.psx_base.specs.Addresses.{user_main, scratchpad}
 use Rattle.kern_layout.specs.declared.ranges.Range.{Range}
-use Rattle.kern_layout.specs.Ranges.{In, Apart, RangesApart, RangesBelowUser}
+use Rattle.kern_layout.specs.Ranges.{In, RangesApart, RangesBelowUser}
 
 -- each range begins where the one before ends, or later, and all end by the last address
 abbrev pub rising : ℕ → ℕ → List Range → Bool

@@ -1,17 +1,16 @@
 -- A processor and a memory stand for each valid state, and for one only.
-use Rattle.std.proofs.Common.{◌≡◌, ℕ, zero, suc, ◌+◌, ◌-◌, ◌*◌, ◌%◌, ◌<◌, ◌≤◌, Bool, true, false, cond, List, [], ◌∷◌, length, refl, sym, ap, ◌∙◌, subst, arith, inl, inr, ⊎_elim}
-use Rattle.std.specs.Prelude.{◌⊎◌, ◌||◌, ◌&&◌, nat_le, nat_lt, map, slice_index}
+use Rattle.std.proofs.Common.{◌≡◌, ℕ, ◌+◌, ◌<◌, ◌≤◌, Bool, true, false, List, [], ◌∷◌, length, refl, sym, ap, ◌∙◌, arith, inl, inr, ⊎_elim}
+use Rattle.std.specs.Prelude.{◌||◌, ◌&&◌, nat_le, nat_lt, map, slice_index}
 use Rattle.std.specs.List.{list_any, list_all, range_with_len}
 use Rattle.std.proofs.lemmas.Bool.{and_parts, or_cases, leb-true, ltb-true}
 use Rattle.std.proofs.lemmas.List.FromFn.{length-map-range_with_len, get_or-map-range_with_len}
 use Rattle.psx_base.specs.Addresses.{user_main, scratchpad}
 use Rattle.psx_base.specs.Memory.{Memory, byte, word, put_bytes}
-use Rattle.psx_base.specs.KernelState.{ThreadContext, KernelState}
+use Rattle.psx_base.specs.KernelState.{KernelState}
 use Rattle.psx_ram.proofs.Bytes.{byte-put_bytes_at, byte-put_bytes_apart}
 use Rattle.kern_layout.specs.declared.ranges.Range.{Range}
-use Rattle.kern_layout.specs.Valid.{Valid}
-use Rattle.kern_layout.specs.Stands.{Side, Stands, SameUser, HoldsRom, is_fixed, fixed_ranges, user_sr}
-use Rattle.kern_layout.specs.StateLaws.{side_of, EachStands, StandsOne, SameStanding}
+use Rattle.kern_layout.specs.Stands.{is_fixed, fixed_ranges, user_sr}
+use Rattle.kern_layout.specs.StateLaws.{EachStands, StandsOne}
 use Rattle.kern_layout.proofs.MemoryMade.{made_memory, byte-made_outside, reads_memory}
 use Rattle.kern_layout.proofs.One.{reads_one}
 
@@ -58,16 +57,17 @@ unfolding rom_memory
 rom_memory-user s rom a le = byte-put_bytes_apart s.memory 0 (rom_bytes rom 0xB000) a (inr (omega (arith, le, length-rom_bytes rom 0xB000)))
 
 pub each_stands : EachStands
-each_stands s v rom =
-    (made_memory s (rom_memory s rom),
-    record {
-      context = refl;
-      sr = refl;
-      latch = refl;
-      reads = reads_memory s v (rom_memory s rom);
-      user = λ a h. byte-made_outside s (rom_memory s rom) v.line a (inr (user_above a h)) ∙ rom_memory-user s rom a (user_above a h);
-      code = λ a h. byte-made_outside s (rom_memory s rom) v.line a (inl (fixed_below a h)) ∙ rom_memory-code s rom a (fixed_below a h);
-    })
+each_stands s v rom = (
+  made_memory s (rom_memory s rom),
+  record {
+    context = refl;
+    sr = refl;
+    latch = refl;
+    reads = reads_memory s v (rom_memory s rom);
+    user = λ a h. byte-made_outside s (rom_memory s rom) v.line a (inr (user_above a h)) ∙ rom_memory-user s rom a (user_above a h);
+    code = λ a h. byte-made_outside s (rom_memory s rom) v.line a (inl (fixed_below a h)) ∙ rom_memory-code s rom a (fixed_below a h);
+  },
+)
 
 -- ---- one state
 
@@ -82,7 +82,7 @@ stands_one p m rom s t v u h k =
     let context = sym h.context ∙ k.context in
     let on = sr_one s.running.interrupts t.running.interrupts (sym h.sr ∙ k.sr) in
     record {
-      shown = reads_one (word m) (byte m) s t v u h.reads k.reads;
+      words = reads_one (word m) (byte m) s t v u h.reads k.reads;
       running = λ i. record { context = context i; interrupts = on i };
       user = λ a q. sym (h.user a q) ∙ k.user a q;
     }

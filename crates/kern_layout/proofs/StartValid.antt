@@ -1,11 +1,11 @@
 -- The state as a program begins is valid.
-use Rattle.std.proofs.Common.{◌≡◌, ℕ, zero, suc, ◌+◌, ◌-◌, ◌<◌, ◌≤◌, Bool, true, false, List, [], ◌∷◌, length, refl, sym, ap, ◌∙◌, subst, arith, inl, inr}
-use Rattle.std.specs.Prelude.{◌⊎◌, Option, Some, None, slice_index_or, replicate, All}
+use Rattle.std.proofs.Common.{ℕ, zero, suc, ◌-◌, List, [], ◌∷◌, refl, sym, subst, arith, inl}
+use Rattle.std.specs.Prelude.{Some, None, replicate, All}
 use Rattle.std.proofs.lemmas.List.{get_or-replicate, length-replicate}
 use Rattle.std.proofs.lemmas.Bool.{false≢true}
 use Rattle.psx_base.specs.declared.stop.Sizes.{Sizes}
 use Rattle.psx_base.specs.Memory.{Memory}
-use Rattle.psx_base.specs.KernelState.{Thread, Free, Used, Event}
+use Rattle.psx_base.specs.KernelState.{Free, Used, Event}
 use Rattle.kern_layout.specs.Reads.{no_event}
 use Rattle.kern_layout.specs.Valid.{Valid, ThreadRests, IsStatus, ChainFits, FileFits}
 use Rattle.kern_layout.specs.Start.{opening, start, SizesFit}

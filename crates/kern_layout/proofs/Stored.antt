@@ -1,14 +1,13 @@
 -- One store to a field is the state with that field changed.
-use Rattle.std.proofs.Common.{◌≡◌, ℕ, zero, suc, ◌+◌, ◌-◌, ◌*◌, ◌%◌, ◌<◌, ◌≤◌, Bool, true, false, cond, List, [], ◌∷◌, ◌++◌, length, refl, sym, ap, ◌∙◌, subst, arith, inl, inr, ⊎_elim, take, get_or-set_same}
-use Rattle.std.specs.Prelude.{◌⊎◌, nat_eq, nat_le, Option, Some, None, slice_index_or, slice_index, slice_set}
-use Rattle.psx_base.specs.KernelState.{ThreadContext, Thread, Free, Used, Event, Task, Element, Second, Line, Scan, Frame, Heap, KernelState}
-use Rattle.kern_layout.specs.Fields.{Fields, Block, Rows, Stack}
-use Rattle.kern_layout.specs.Stores.{Same, Kept, SameBytes, put, with_field, with_thread, with_event, with_frame, with_chain}
+use Rattle.std.proofs.Common.{◌≡◌, ℕ, suc, ◌+◌, ◌*◌, ◌%◌, ◌<◌, ◌≤◌, List, [], ◌∷◌, length, refl, sym, ap, ◌∙◌, subst, arith, take}
+use Rattle.std.specs.Prelude.{Option, slice_set}
+use Rattle.psx_base.specs.KernelState.{ThreadContext, Thread, Free, Event, Task, Element, Line, KernelState}
+use Rattle.kern_layout.specs.Fields.{Block, Stack}
+use Rattle.kern_layout.specs.Stores.{Same, SameBytes, put, with_field, with_thread, with_event, with_frame, with_chain}
 use Rattle.kern_layout.specs.Contexts.{saved, thread_fields}
-use Rattle.kern_layout.specs.Tasks.{elements_of, lines_of, under_way_fields, count_fields, TasksAt, FrameAt}
-use Rattle.kern_layout.specs.HeapTable.{IsEntry, entry_fields, Linked, HeapAt, cell_at}
-use Rattle.kern_layout.specs.Reads.{Reads, thread, event, frame, chain, event_fields, no_event, file_fields, no_frame, thread_at, event_at, frame_at, file_at, chain_at, ChainAt, LineAt, variables, next_word}
-use Rattle.kern_layout.specs.Valid.{Valid, TasksFit}
+use Rattle.kern_layout.specs.Tasks.{elements_of, lines_of, under_way_fields, TasksAt}
+use Rattle.kern_layout.specs.Reads.{Reads, thread, event, frame, chain, event_fields, file_fields, no_frame, thread_at, event_at, frame_at, file_at, chain_at, ChainAt, variables}
+use Rattle.kern_layout.specs.Valid.{Valid}
 use Rattle.kern_layout.proofs.Blocks.{block_put, put_kept, put_here, put_other, stack_same, block_same}
 use Rattle.kern_layout.proofs.Kept as kept
 use Rattle.kern_layout.proofs.Written as written
@@ -28,6 +27,13 @@ thread_stored s valid w b c line n o v t lt up is old =
     written.reads_thread s valid w (put w (thread_at n + o) v) b c line n t lt
     (put_kept w (thread_at n + o) v (thread_at n) (thread_at n + 0xC0) (omega arith) (omega arith))
     (subst (λ f. Block (put w (thread_at n + o) v) (thread_at n) f) is (block_put w (thread_at n) o v (thread_fields s.current n (thread s n)) (old.threads n lt))) old
+
+pub thread_freed : (s : KernelState) → Valid s → (w b c : ℕ → ℕ) → SameBytes 0xE900 0xEA00 b c → (n : ℕ) → n < length s.threads → Reads s w b → Reads (with_thread s n Free) (put w (thread_at n) 0x1000) c
+thread_freed s valid w b c line n lt old =
+    let x = put w (thread_at n) 0x1000 in
+    written.reads_thread s valid w x b c line n Free lt
+    (put_kept w (thread_at n) 0x1000 (thread_at n) (thread_at n + 0xC0) (omega arith) (omega arith))
+    (ap x (let e : thread_at n + 0 ≡ thread_at n = omega arith in e) ∙ put_here w (thread_at n) 0x1000, tt) old
 
 pub event_stored : (s : KernelState) → Valid s → (w b c : ℕ → ℕ) → SameBytes 0xE900 0xEA00 b c → (i o v : ℕ) (e : Event) → i < length s.events → o < 0x1C → with_field (event_fields i (event s i)) o v ≡ event_fields i e → Reads s w b → Reads (with_event s i e) (put w (event_at i + o) v) c
 event_stored s valid w b c line i o v e lt up is old =
@@ -58,6 +64,17 @@ way_stored w at o v ts us al few four lo up is elements lines h =
       counts = ((put_other w (at + o) v (at + 0xA8) (λ e. omega arith)) ∙ h.counts.0 ∙ sym (ap length elements), ((put_other w (at + o) v (at + 0xAC) (λ e. omega arith)) ∙ h.counts.1.0 ∙ sym (ap length lines), tt));
       lines = subst (λ l. Stack x (at + 0xB0) l) (sym lines) (stack_same w x (at + 0xB0) (at + 0xC0) (lines_of ts) (omega arith) (omega arith) (put_above w (at + o) v (at + 0xB0) (at + 0xC0) (omega arith)) h.lines);
       elements = subst (λ l. Stack x (at + 0x100) l) (sym elements) (stack_same w x (at + 0x100) (at + 0x180) (elements_of ts) (omega arith) (omega arith) (put_above w (at + o) v (at + 0x100) (at + 0x180) (omega arith)) h.elements);
+    }
+
+-- the task under way is done
+pub way_done : (w : ℕ → ℕ) (at : ℕ) (ts us : List Task) → at % 4 ≡ 0 → length (elements_of ts) ≤ 32 → length (lines_of ts) ≤ 4 → under_way_fields us ≡ (0x98, 0) ∷ [] → elements_of us ≡ elements_of ts → lines_of us ≡ lines_of ts → TasksAt w at ts → TasksAt (put w (at + 0x98) 0) at us
+way_done w at ts us al few four none elements lines h =
+    let x = put w (at + 0x98) 0 in
+    record {
+      first = subst (λ f. Block x at f) (sym none) (put_here w (at + 0x98) 0, tt);
+      counts = (put_other w (at + 0x98) 0 (at + 0xA8) (λ q. omega arith) ∙ h.counts.0 ∙ sym (ap length elements), (put_other w (at + 0x98) 0 (at + 0xAC) (λ q. omega arith) ∙ h.counts.1.0 ∙ sym (ap length lines), tt));
+      lines = subst (λ l. Stack x (at + 0xB0) l) (sym lines) (stack_same w x (at + 0xB0) (at + 0xC0) (lines_of ts) (omega arith) (omega arith) (put_above w (at + 0x98) 0 (at + 0xB0) (at + 0xC0) (omega arith)) h.lines);
+      elements = subst (λ l. Stack x (at + 0x100) l) (sym elements) (stack_same w x (at + 0x100) (at + 0x180) (elements_of ts) (omega arith) (omega arith) (put_above w (at + 0x98) 0 (at + 0x100) (at + 0x180) (omega arith)) h.elements);
     }
 
 -- the first element is taken: one less is counted

@@ -1,18 +1,17 @@
 -- What a store in a table makes of the state.
-use Rattle.std.proofs.Common.{◌≡◌, ℕ, zero, suc, ◌+◌, ◌-◌, ◌*◌, ◌%◌, ◌<◌, ◌≤◌, Bool, true, false, cond, List, [], ◌∷◌, ◌++◌, length, refl, sym, ap, ◌∙◌, subst, arith, inl, inr, ⊎_elim, get_or, take, get_or-set_same, get_or-set_other, eq-eqb, ne_eqb}
-use Rattle.std.specs.Prelude.{◌⊎◌, nat_eq, Option, Some, None, slice_index_or, slice_index, slice_set, All}
-use Rattle.std.proofs.lemmas.List.{length-set, length-take-le, get_or-take}
+use Rattle.std.proofs.Common.{◌≡◌, ℕ, ◌+◌, ◌<◌, ◌≤◌, Bool, List, [], ◌∷◌, length, sym, subst, arith, inl, inr, ⊎_elim, get_or-set_same, get_or-set_other}
+use Rattle.std.specs.Prelude.{Option, None, slice_index_or, slice_set}
+use Rattle.std.proofs.lemmas.List.{length-set}
 use Rattle.std.proofs.lemmas.Bool.{cases_lt, cases_eq}
-use Rattle.std.proofs.Math.Nat.{mul-le-mul_left}
-use Rattle.psx_base.specs.KernelState.{ThreadContext, Thread, Free, Used, Event, Frame, Heap, KernelState}
-use Rattle.kern_layout.specs.Fields.{Fields, Block, Rows, Stack}
+use Rattle.psx_base.specs.KernelState.{Thread, Free, Event, Frame, KernelState}
+use Rattle.kern_layout.specs.Fields.{Fields, Block}
 use Rattle.kern_layout.specs.Stores.{Same, Kept, SameBytes, with_thread, with_event, with_frame, with_chain}
-use Rattle.kern_layout.specs.Contexts.{saved, thread_fields}
+use Rattle.kern_layout.specs.Contexts.{thread_fields}
 use Rattle.kern_layout.specs.Tasks.{FrameAt}
 use Rattle.kern_layout.specs.HeapTable.{HeapAt}
-use Rattle.kern_layout.specs.Reads.{Reads, thread, event_fields, no_event, file_fields, no_frame, FramesAt, frame_at, thread_at, event_at, file_at, ChainAt, ChainsAt, chain_at, LineAt, variables, next_word}
+use Rattle.kern_layout.specs.Reads.{Reads, event_fields, no_event, file_fields, no_frame, frame_at, thread_at, event_at, file_at, ChainAt, chain_at, variables, next_word}
 use Rattle.kern_layout.specs.Valid.{Valid}
-use Rattle.kern_layout.proofs.Blocks.{rows_set, block_same}
+use Rattle.kern_layout.proofs.Blocks.{rows_set}
 use Rattle.kern_layout.proofs.Kept as kept
 
 -- what lies below or above a range that alone is written
@@ -137,4 +136,3 @@ reads_free s v w x b c line low mid high old = record {
   line = kept.line_kept s.line v.line b c line old.line;
   variables = kept.variables_kept s w x (λ a m lo up. high a m lo (omega (arith, up))) old.variables;
 }
-

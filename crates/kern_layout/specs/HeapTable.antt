@@ -2,14 +2,15 @@
 use Rattle.std.specs.Prelude.{◌≡◌, ◌⊎◌, ℕ, zero, suc, ◌+◌, ◌-◌, ◌*◌, ◌%◌, ◌<◌, ◌≤◌, Bool, List, [], ◌∷◌, length, if◌then◌else◌}
 use Rattle.psx_base.specs.KernelState.{Heap}
 use Rattle.kern_layout.specs.Fields.{Fields, Block}
+use Rattle.kern_layout.specs.Numbers.{work_area, heap_entries, heap_entry_size, heap_block_size, heap_block_used, heap_first_at, heap_spare_at, threads_at, heap_table_at}
 
 -- an entry's address
 abbrev pub IsEntry : ℕ → Type 0
-IsEntry e = (k : ℕ) × (k < 512) × (e ≡ 0xD000 + 12 * k)
+IsEntry e = (k : ℕ) × (k < heap_entries) × (e ≡ heap_table_at + heap_entry_size * k)
 
 -- the size and use of a block, in its entry
 abbrev pub entry_fields : ℕ × Bool → Fields
-entry_fields b = (4, b.0) ∷ (8, if b.1 then 1 else 0) ∷ []
+entry_fields b = (heap_block_size, b.0) ∷ (heap_block_used, if b.1 then 1 else 0) ∷ []
 
 -- the entries from the one that the word at `cell` names are these blocks, in order
 abbrev pub Linked : (ℕ → ℕ) → ℕ → List (ℕ × Bool) → Type 0
@@ -19,12 +20,12 @@ Linked w cell (b ∷ bs) = IsEntry (w cell) × Block w (w cell) (entry_fields b)
 -- so many spare entries follow from there, each with the size 0
 abbrev pub Spare : (ℕ → ℕ) → ℕ → ℕ → Type 0
 Spare w cell zero = w cell ≡ 0
-Spare w cell (suc n) = IsEntry (w cell) × (w (w cell + 4) ≡ 0) × Spare w (w cell) n
+Spare w cell (suc n) = IsEntry (w cell) × (w (w cell + heap_block_size) ≡ 0) × Spare w (w cell) n
 
 -- the blocks are linked from one variable, and all other entries from another
 pub record HeapAt (w : ℕ → ℕ) (h : Heap) : Type 0 where
-  pub blocks : Linked w 0xEA40 h.blocks
-  pub spare : Spare w 0xEA44 (512 - length h.blocks)
+  pub blocks : Linked w heap_first_at h.blocks
+  pub spare : Spare w heap_spare_at (heap_entries - length h.blocks)
 
 -- the word from which the list goes on behind n entries: at first the word that names its first entry, then the entries themselves
 abbrev pub cell_at : (ℕ → ℕ) → ℕ → ℕ → ℕ
@@ -33,4 +34,4 @@ cell_at w cell (suc n) = cell_at w (w cell) n
 
 -- Of the words of the data ranges only the one at d, the three of the entry e, and the one that names the first spare entry are written.
 abbrev pub LinksWritten : (w x : ℕ → ℕ) (d e : ℕ) → Type 0
-LinksWritten w x d e = (a : ℕ) → a % 4 ≡ 0 → 0xB000 ≤ a → a < 0xEB00 → (a ≡ d → ⊥) → (a ≡ 0xEA44 → ⊥) → (a < e) ⊎ (e + 12 ≤ a) → x a ≡ w a
+LinksWritten w x d e = (a : ℕ) → a % 4 ≡ 0 → threads_at ≤ a → a < work_area → (a ≡ d → ⊥) → (a ≡ heap_spare_at → ⊥) → (a < e) ⊎ (e + heap_entry_size ≤ a) → x a ≡ w a

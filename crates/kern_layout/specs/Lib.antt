@@ -1,5 +1,5 @@
-pub mod Ranges
 pub mod Numbers
+pub mod Ranges
 pub mod BlockWords
 pub mod Fields
 pub mod Contexts
@@ -8,11 +8,11 @@ pub mod HeapTable
 pub mod Reads
 pub mod Valid
 pub mod Start
+pub mod Opening
 pub mod Stands
-pub mod Hidden
+pub mod Shown
 pub mod StateLaws
-pub mod OwnRange
 pub mod Stores
+pub mod OwnRange
 pub mod StoreLaws
 pub mod MemoryLaws
-pub mod Opening

@@ -1,5 +1,5 @@
 -- The numbers of the layout inside the ranges. Thread and event control blocks are after PSX-SPX, Kernel (BIOS), Thread Functions and Event Functions; the rest is this project's own.
-use Rattle.std.specs.Prelude.{ℕ}
+use Rattle.std.specs.Prelude.{ℕ, ◌+◌, ◌*◌}
 
 -- ---- thread control blocks (PSX-SPX, Kernel (BIOS), Thread Functions)
 
@@ -14,6 +14,10 @@ thread_status = 0
 
 abbrev pub saved_registers : ℕ
 saved_registers = 8
+
+-- register n of a saved context
+abbrev pub saved_register : ℕ → ℕ
+saved_register n = saved_registers + 4 * n
 
 abbrev pub saved_pc : ℕ
 saved_pc = 0x88
@@ -237,3 +241,7 @@ line_at = 0xE900
 
 abbrev pub variables_at : ℕ
 variables_at = 0xEA00
+
+-- the bytes of the variables that are numbers of the state
+abbrev pub variables_size : ℕ
+variables_size = 0x28

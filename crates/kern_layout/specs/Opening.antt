@@ -1,31 +1,32 @@
 -- The words of the data ranges as the image has them, before the boot code stores the two sizes and leaves to the program.
-use Rattle.std.specs.Prelude.{◌≡◌, ℕ, ◌+◌, ◌-◌, ◌%◌, ◌<◌, ◌≤◌, ◌&&◌, nat_eq, nat_lt, nat_le, if◌then◌else◌}
+use Rattle.std.specs.Prelude.{◌≡◌, ℕ, ◌+◌, ◌-◌, ◌*◌, ◌%◌, ◌<◌, ◌≤◌, ◌&&◌, nat_eq, nat_lt, nat_le, if◌then◌else◌}
 use Rattle.psx_base.specs.declared.stop.Sizes.{Sizes}
 use Rattle.psx_base.specs.Memory.{Memory}
 use Rattle.kern_layout.specs.Reads.{Reads}
 use Rattle.kern_layout.specs.Stores.{put}
 use Rattle.kern_layout.specs.Start.{start, SizesFit}
+use Rattle.kern_layout.specs.Numbers.{thread_size, free_thread, used_thread, heap_entries, heap_entry_size, file_size, thread_count_at, event_count_at, heap_spare_at, threads_at, events_at, heap_table_at, files_at}
 
 -- among the thread control blocks, by the place behind the first: thread 0 is used, and the others are free
 abbrev pub thread_opening : ℕ → ℕ
-thread_opening o = if nat_eq o 0 then 0x4000 else (if nat_eq (o % 0xC0) 0 then 0x1000 else 0)
+thread_opening o = if nat_eq o 0 then used_thread else (if nat_eq (o % thread_size) 0 then free_thread else 0)
 
 -- in the heap's table, by the place behind the first entry: each entry names the next one, and the last none
 abbrev pub heap_opening : ℕ → ℕ
-heap_opening o = if nat_eq (o % 12) 0 && nat_lt (o + 12) 0x1800 then 0xD000 + (o + 12) else 0
+heap_opening o = if nat_eq (o % heap_entry_size) 0 && nat_lt (o + heap_entry_size) (heap_entries * heap_entry_size) then heap_table_at + (o + heap_entry_size) else 0
 
 -- elsewhere: file 0 is open for reading and file 1 for writing, and the first entry of the heap's table is the first spare one
 abbrev pub other_opening : ℕ → ℕ
-other_opening a = if nat_eq a 0xE800 then 1 else (if nat_eq a 0xE804 then 2 else (if nat_eq a 0xEA44 then 0xD000 else 0))
+other_opening a = if nat_eq a files_at then 1 else (if nat_eq a (files_at + file_size) then 2 else (if nat_eq a heap_spare_at then heap_table_at else 0))
 
 -- the word at an address from B000h on
 abbrev pub opening_at : ℕ → ℕ
-opening_at a = if nat_lt a 0xBC00 then thread_opening (a - 0xB000) else (if nat_le 0xD000 a && nat_lt a 0xE800 then heap_opening (a - 0xD000) else other_opening a)
+opening_at a = if nat_lt a events_at then thread_opening (a - threads_at) else (if nat_le heap_table_at a && nat_lt a files_at then heap_opening (a - heap_table_at) else other_opening a)
 
 -- the words at multiples of 4 in the data ranges are these
 abbrev pub Opens : (ℕ → ℕ) → Type 0
-Opens w = (a : ℕ) → a % 4 ≡ 0 → 0xB000 ≤ a → a < 0x10000 → w a ≡ opening_at a
+Opens w = (a : ℕ) → a % 4 ≡ 0 → threads_at ≤ a → a < 0x10000 → w a ≡ opening_at a
 
 -- with the two sizes stored they read as the state at a program's begin, whatever program it is
 abbrev pub OpensAsStart : Type 0
-OpensAsStart = (w b : ℕ → ℕ) (pc gp stack : ℕ) (m : Memory) (sizes : Sizes) → SizesFit sizes → Opens w → Reads (start pc gp stack m sizes) (put (put w 0xEA0C sizes.threads) 0xEA10 sizes.events) b
+OpensAsStart = (w b : ℕ → ℕ) (pc gp stack : ℕ) (m : Memory) (sizes : Sizes) → SizesFit sizes → Opens w → Reads (start pc gp stack m sizes) (put (put w thread_count_at sizes.threads) event_count_at sizes.events) b

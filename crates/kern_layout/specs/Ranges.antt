@@ -1,7 +1,8 @@
 -- The ranges of the kernel's 64 KB, by physical addresses. That the gates and the control blocks stand there is after PSX-SPX, Kernel (BIOS); the layout is this project's own.
-use Rattle.std.specs.Prelude.{◌≡◌, ℕ, ◌<◌, ◌≤◌, Bool, false, List, [], ◌∷◌, AllPairs, All, ◌||◌}
+use Rattle.std.specs.Prelude.{◌≡◌, ℕ, ◌<◌, ◌≤◌, false, List, [], ◌∷◌, AllPairs, All, ◌||◌}
 use Rattle.psx_base.specs.Addresses.{user_main, scratchpad}
 use Rattle.kern_layout.specs.declared.ranges.Range.{Range}
+use Rattle.kern_layout.specs.Numbers.{threads_at, events_at, frames_at, chains_at, heap_table_at, files_at, line_at, variables_at, work_area}
 
 -- the bytes from an address on, up to and without another
 abbrev pub range : ℕ → ℕ → Range
@@ -65,31 +66,31 @@ abbrev pub card_code_range : Range
 card_code_range = range 0xA000 0xB000
 
 abbrev pub threads_range : Range
-threads_range = range 0xB000 0xBC00
+threads_range = range threads_at 0xBC00
 
 abbrev pub events_range : Range
-events_range = range 0xBC00 0xC300
+events_range = range events_at 0xC300
 
 abbrev pub frames_range : Range
-frames_range = range 0xC300 0xCF00
+frames_range = range frames_at 0xCF00
 
 abbrev pub chains_range : Range
-chains_range = range 0xCF00 0xD000
+chains_range = range chains_at 0xD000
 
 abbrev pub heap_table_range : Range
-heap_table_range = range 0xD000 0xE800
+heap_table_range = range heap_table_at 0xE800
 
 abbrev pub files_range : Range
-files_range = range 0xE800 0xE900
+files_range = range files_at 0xE900
 
 abbrev pub line_range : Range
-line_range = range 0xE900 0xEA00
+line_range = range line_at 0xEA00
 
 abbrev pub variables_range : Range
-variables_range = range 0xEA00 0xEB00
+variables_range = range variables_at 0xEB00
 
 abbrev pub stack_range : Range
-stack_range = range 0xEB00 0xF000
+stack_range = range work_area 0xF000
 
 -- all of them, in rising order
 abbrev pub layout : List Range

@@ -5,13 +5,14 @@ use Rattle.psx_base.specs.Memory.{Memory, byte, word}
 use Rattle.psx_base.specs.KernelState.{KernelState}
 use Rattle.kern_layout.specs.Reads.{Reads}
 use Rattle.kern_layout.specs.Valid.{Valid}
-use Rattle.kern_layout.specs.Hidden.{hidden}
+use Rattle.kern_layout.specs.Shown.{shown}
 use Rattle.kern_layout.specs.Start.{SizesFit, start}
 use Rattle.kern_layout.specs.Stands.{Side, Stands, SameUser, user_sr}
+use Rattle.kern_layout.specs.Numbers.{threads_at}
 
 -- each valid state is read from a memory, which differs from a given one in the data ranges alone
 abbrev pub EachIsRead : Type 0
-EachIsRead = (s : KernelState) → Valid s → (given : Memory) → (m : Memory) × Reads s (word m) (byte m) × ((a : ℕ) → (a < 0xB000) ⊎ (0x10000 ≤ a) → byte m a ≡ byte given a)
+EachIsRead = (s : KernelState) → Valid s → (given : Memory) → (m : Memory) × Reads s (word m) (byte m) × ((a : ℕ) → (a < threads_at) ⊎ (0x10000 ≤ a) → byte m a ≡ byte given a)
 
 -- the processor on the user side with a state's running context
 abbrev pub side_of : KernelState → Side
@@ -23,11 +24,11 @@ EachStands = (s : KernelState) → Valid s → (rom : List ℕ) → (m : Memory)
 
 -- words and bytes read as one valid state, but for what they don't show
 abbrev pub ReadsOne : Type 0
-ReadsOne = (w b : ℕ → ℕ) (s t : KernelState) → Valid s → Valid t → Reads s w b → Reads t w b → hidden s ≡ hidden t
+ReadsOne = (w b : ℕ → ℕ) (s t : KernelState) → Valid s → Valid t → Reads s w b → Reads t w b → shown s ≡ shown t
 
 -- a processor and a memory stand for one valid state, but for the context that the running thread's slot keeps
 pub record SameStanding (s t : KernelState) : Type 0 where
-  pub shown : hidden s ≡ hidden t
+  pub words : shown s ≡ shown t
   pub running : s.running ≡ t.running
   pub user : SameUser s.memory t.memory
 

@@ -1,5 +1,5 @@
 -- What a store leaves and changes of words, of fields and of a state.
-use Rattle.std.specs.Prelude.{◌≡◌, ◌⊎◌, ℕ, ◌+◌, ◌%◌, ◌<◌, ◌≤◌, List, [], ◌∷◌, slice_set, nat_eq, if◌then◌else◌}
+use Rattle.std.specs.Prelude.{◌≡◌, ◌⊎◌, ℕ, ◌%◌, ◌<◌, ◌≤◌, List, [], ◌∷◌, slice_set, nat_eq, if◌then◌else◌}
 use Rattle.psx_base.specs.KernelState.{Thread, Event, Frame, KernelState}
 use Rattle.kern_layout.specs.Fields.{Fields}
 

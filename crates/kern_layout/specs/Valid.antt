@@ -3,9 +3,10 @@ use Rattle.std.specs.Prelude.{◌≡◌, ◌≢◌, ◌⊎◌, ℕ, ◌+◌, ◌
 use Rattle.psx_base.specs.Addresses.{user}
 use Rattle.psx_base.specs.FirstBad.{first_bad_of}
 use Rattle.psx_base.specs.Context.{Context, IsAtRest}
-use Rattle.psx_base.specs.KernelState.{ThreadContext, Thread, Free, Used, Event, Task, Element, Second, Line, Scan, Frame, Heap, KernelState}
+use Rattle.psx_base.specs.KernelState.{Thread, Free, Used, Event, Task, Element, Second, Line, Scan, Frame, Heap, KernelState}
 use Rattle.kern_layout.specs.Tasks.{InOrder, elements_of, lines_of}
 use Rattle.kern_layout.specs.Reads.{thread}
+use Rattle.kern_layout.specs.Numbers.{free_event, disabled_event, busy_event, ready_event, heap_entries}
 
 -- a used thread's context is at rest
 abbrev pub ThreadRests : Thread → Type 0
@@ -28,7 +29,7 @@ NextFits s (Some n) = (n < length s.threads) × IsUsed (thread s n) × (n ≢ s.
 
 -- an event's status: free, disabled, busy or ready
 abbrev pub IsStatus : ℕ → Type 0
-IsStatus v = (v ≡ 0) ⊎ ((v ≡ 0x1000) ⊎ ((v ≡ 0x2000) ⊎ (v ≡ 0x4000)))
+IsStatus v = (v ≡ free_event) ⊎ ((v ≡ disabled_event) ⊎ ((v ≡ busy_event) ⊎ (v ≡ ready_event)))
 
 -- an element of a chain: a multiple of 4 with 12 bytes of user memory
 pub record IsElement (e : ℕ) : Type 0 where
@@ -87,7 +88,7 @@ NoneFreeBoth (a ∷ b ∷ bs) = ((a.1 ≡ true) ⊎ (b.1 ≡ true)) × NoneFreeB
 -- the bytes of all blocks, from the base on, are user memory
 pub record HeapFits (h : Heap) : Type 0 where
   pub base : h.base % 8 ≡ 0
-  pub few : length h.blocks ≤ 512
+  pub few : length h.blocks ≤ heap_entries
   pub sizes : All BlockFits h.blocks
   pub joined : NoneFreeBoth h.blocks
   pub bytes : first_bad_of h.base (sum_by (λ (b : ℕ × Bool). b.0) h.blocks) ≡ None

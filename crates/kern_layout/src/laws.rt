@@ -2,7 +2,7 @@
 ghost use Rattle.kern_layout.specs.StateLaws.{EachIsRead, EachStands, ReadsOne, StandsOne, StartsValid};
 ghost use Rattle.kern_layout.specs.OwnRange.{ThreadsOwn, EventsOwn, FramesOwn, ChainsOwn, HeapOwn, FilesOwn, LineOwn, VariablesOwn, FreeWords};
 ghost use Rattle.kern_layout.specs.MemoryLaws.{WordStored, LineKept, ByteStored};
-ghost use Rattle.kern_layout.specs.StoreLaws.{ThreadWritten, ThreadStored, ThreadSwitched, EventWritten, EventStored, FileStored, VariableStored, FrameWritten, FrameContextStored, FrameTaskStored, FramePushed, FramesDropped, TaskStored, ElementTaken, LineTaken, ChainWritten, ChainLinked, ChainUnlinked, LineStored, LineAppended, LineEmptied, BlockStored, BlockUnlinked, BlockLinked};
+ghost use Rattle.kern_layout.specs.StoreLaws.{ThreadWritten, ThreadStored, ThreadFreed, ThreadSwitched, EventWritten, EventStored, EventStatusStored, FileStored, VariableStored, FrameWritten, FrameContextStored, FrameTaskStored, FramePushed, FramesDropped, TaskStored, TaskDone, ElementTaken, LineTaken, ChainWritten, ChainLinked, ChainUnlinked, LineStored, LineAppended, LineEmptied, HeapWritten, BlockStored, BlockUnlinked, BlockLinked, ContextCopied, TasksCopied, FrameCopied, StackMore, StackJoined};
 
 /// Each valid state is read from some memory, words read as one state only but for what they don't show, and the state at a program's begin is valid.
 ///
@@ -32,6 +32,7 @@ pub fn own_ranges()
 pub fn thread_stores()
     ensures written { ThreadWritten }
     ensures stored { ThreadStored }
+    ensures freed { ThreadFreed }
     ensures switched { ThreadSwitched }
 {}
 
@@ -39,6 +40,7 @@ pub fn thread_stores()
 pub fn event_stores()
     ensures written { EventWritten }
     ensures stored { EventStored }
+    ensures status { EventStatusStored }
 {}
 
 /// A store to a file's word is the state with that file closed or open.
@@ -63,6 +65,7 @@ pub fn frame_stores()
 /// A store among the tasks of a frame or of the work area is the list of tasks with that task changed, or without its first one.
 pub fn task_stores()
     ensures stored { TaskStored }
+    ensures done { TaskDone }
     ensures element_taken { ElementTaken }
     ensures line_taken { LineTaken }
 {}
@@ -83,9 +86,23 @@ pub fn line_stores()
 
 /// A store to an entry of the heap's table is the state with that block changed; unlinking and linking an entry is the list without and with it.
 pub fn heap_stores()
+    ensures written { HeapWritten }
     ensures stored { BlockStored }
     ensures unlinked { BlockUnlinked }
     ensures linked { BlockLinked }
+{}
+
+/// A list of words has one number more by one store, and two lists that stand one behind the other are one.
+pub fn stacks()
+    ensures more { StackMore }
+    ensures joined { StackJoined }
+{}
+
+/// A context, tasks or a frame copied word by word to another place are there too.
+pub fn copies()
+    ensures context { ContextCopied }
+    ensures tasks { TasksCopied }
+    ensures frame { FrameCopied }
 {}
 
 /// A store to memory is the store to its words at multiples of 4, and to the bytes of the line.

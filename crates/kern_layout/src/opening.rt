@@ -4,7 +4,9 @@ ghost use Rattle.kern_layout.specs.BlockWords.{block_word};
 ghost use Rattle.kern_layout.specs.Opening.{thread_opening, heap_opening, other_opening, opening_at, Opens, OpensAsStart};
 
 use crate::KernelBlock;
-use crate::places::{FILE_SIZE, HEAP_ENTRY_SIZE, HEAP_SPARE, THREAD_FREE, THREAD_SIZE, THREAD_USED};
+use crate::places::{
+    FILE_SIZE, HEAP_ENTRY_SIZE, HEAP_SPARE, THREAD_FREE, THREAD_SIZE, THREAD_USED,
+};
 use crate::ranges::{EVENTS, FILES, HEAP_TABLE, THREADS};
 
 /// A file that is open for reading, and one that is open for writing.

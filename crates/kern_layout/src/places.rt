@@ -1,9 +1,9 @@
 //! The places inside the blocks of the kernel's 64 KB, the variables, and the places in the code at which routines arrive or which they call.
 //! Offsets are in bytes from the block's address; addresses are physical.
-ghost use Rattle.std.specs.Prelude.{◌≡◌, ◌+◌, ◌*◌, ◌≤◌};
+ghost use Rattle.std.specs.Prelude.{◌≡◌, ◌+◌, ◌*◌, ◌<◌, ◌≤◌};
 ghost use Rattle.kern_layout.specs.Numbers as number;
 
-use crate::ranges::{CHAINS, EVENTS, FILES, FRAMES, HEAP_TABLE, STACK, THREADS};
+use crate::ranges::{CHAINS, ENTRY_CODE, EVENTS, FILES, FRAMES, HEAP_TABLE, STACK, THREADS};
 
 /// How many thread control blocks there is room for.
 pub const THREAD_BLOCKS: u32 = 16;
@@ -297,7 +297,7 @@ pub fn code_places()
     ensures tested_write_word_at { TESTED_WRITE_WORD ≡ number.tested_write_word_at }
 {}
 
-/// The blocks of each table fit its range, and the work area the kernel's stack.
+/// The blocks of each table fit its range, and the work area the kernel's stack. The places in the entry's code lie in its range, one behind the other, the last four with room for 40 words each.
 pub fn blocks_fit()
     ensures threads { THREADS.from + THREAD_BLOCKS * THREAD_SIZE ≤ THREADS.to }
     ensures events { EVENTS.from + EVENT_BLOCKS * EVENT_SIZE ≤ EVENTS.to }
@@ -306,4 +306,6 @@ pub fn blocks_fit()
     ensures heap { HEAP_TABLE.from + HEAP_ENTRIES * HEAP_ENTRY_SIZE ≤ HEAP_TABLE.to }
     ensures files { FILES.from + FILE_BLOCKS * FILE_SIZE ≤ FILES.to }
     ensures work_area { (STACK.from ≡ WORK_AREA) × (WORK_AREA + FRAME_SIZE ≤ STACK.to) }
+    ensures joins { (ENTRY_CODE.from < LEAVE) × (LEAVE < WORK) × (WORK < TESTED_READ_BYTE) }
+    ensures tested { (TESTED_READ_BYTE + 160 ≤ TESTED_WRITE_BYTE) × (TESTED_WRITE_BYTE + 160 ≤ TESTED_READ_WORD) × (TESTED_READ_WORD + 160 ≤ TESTED_WRITE_WORD) × (TESTED_WRITE_WORD + 160 ≤ ENTRY_CODE.to) }
 {}

@@ -1,4 +1,4 @@
-use Rattle.std.proofs.Common.{◌≡◌, ℕ, replicate, List, ◌*◌, ◌∙◌, refl, arith}
+use Rattle.std.proofs.Common.{◌≡◌, ℕ, replicate, List, ◌∙◌, refl, arith}
 use Rattle.std.proofs.lemmas.List.{get_or-replicate, length-replicate}
 use Rattle.kern_layout.specs.BlockWords.{IsBlock}
 use Rattle.kern_layout.proofs.block.KernelBlock.new.Goals as goal
