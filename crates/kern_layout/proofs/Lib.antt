@@ -15,3 +15,4 @@ pub mod StandsMade
 pub mod MemoryStored
 pub mod OpeningRead
 pub mod Copied
+pub mod InWords

@@ -17,10 +17,10 @@ use Rattle.kern_layout.proofs.Written.{reads_free}
 
 -- ---- the words
 
-abbrev variable_word : KernelState → ℕ → ℕ
+abbrev pub variable_word : KernelState → ℕ → ℕ
 variable_word s o = cond (nat_eq o 0x40) (link (length s.heap.blocks) 0) (cond (nat_eq o 0x44) (spare_link (length s.heap.blocks)) (look (variables s) o))
 
-word_of : KernelState → ℕ → ℕ
+unfoldable pub word_of : KernelState → ℕ → ℕ
 word_of s a = cond (nat_lt a 0xBC00) (made.threads_word s.current s.threads a) (cond (nat_lt a 0xC300) (made.events_word s.events a) (cond (nat_lt a 0xCF00) (made.frames_word s.frames a) (cond (nat_lt a 0xD000) (made.chains_word s.chains a) (cond (nat_lt a 0xE800) (heap_word s.heap.blocks a) (cond (nat_lt a 0xEA00) (made.files_word s.files a) (variable_word s (a - 0xEA00)))))))
 
 of_threads : (s : KernelState) (a : ℕ) → a < 0xBC00 → word_of s a ≡ made.threads_word s.current s.threads a
@@ -69,7 +69,7 @@ reads_made s v b line = record {
 -- ---- the memory
 
 -- n words from an address on are those of a function
-fill : ℕ → ℕ → (ℕ → ℕ) → Memory → Memory
+unfoldable pub fill : ℕ → ℕ → (ℕ → ℕ) → Memory → Memory
 fill from zero f m = m
 fill from (suc n) f m = put_word (fill from n f m) (from + 4 * n) (f (from + 4 * n))
 
@@ -96,7 +96,7 @@ byte-fill from zero f m a o = refl
 byte-fill from (suc n) f m a o = byte-put_word_apart (fill from n f m) (from + 4 * n) (f (from + 4 * n)) a (byte_apart (from + 4 * n) a (⊎_elim (λ l. inl (omega (arith, l))) (λ g. inr (omega (arith, g))) o)) ∙ byte-fill from n f m a (⊎_elim (λ l. inl l) (λ g. inr (omega (arith, g))) o)
 
 -- the kernel's blocks filled with the state, and the line over them
-pub made_memory : KernelState → Memory → Memory
+unfoldable pub made_memory : KernelState → Memory → Memory
 made_memory s m = put_bytes (fill 0xB000 0x1400 (word_of s) m) 0xE900 s.line
 
 line_apart : (n b : ℕ) → n ≤ 254 → (b + 4 ≤ 0xE900) ⊎ (0xEA00 ≤ b) → apart 0xE900 n b 4 ≡ true

@@ -11,7 +11,7 @@ use Rattle.kern_layout.specs.Valid.{Valid, ThreadRests, IsStatus, ChainFits, Fil
 use Rattle.kern_layout.specs.Start.{opening, start, SizesFit}
 
 -- what holds of the first and of each that follows holds of all
-all_cons : {X : Type 0} (P : X → Type 0) (x : X) (xs : List X) → P x → All P xs → All P (x ∷ xs)
+pub all_cons : {X : Type 0} (P : X → Type 0) (x : X) (xs : List X) → P x → All P xs → All P (x ∷ xs)
 all_cons P x xs h t zero d lt = h
 all_cons P x xs h t (suc k) d lt = t k d (omega arith)
 

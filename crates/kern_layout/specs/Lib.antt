@@ -11,6 +11,7 @@ pub mod Start
 pub mod Opening
 pub mod Stands
 pub mod Shown
+pub mod Fits
 pub mod StateLaws
 pub mod Stores
 pub mod OwnRange

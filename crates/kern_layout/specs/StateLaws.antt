@@ -6,13 +6,14 @@ use Rattle.psx_base.specs.KernelState.{KernelState}
 use Rattle.kern_layout.specs.Reads.{Reads}
 use Rattle.kern_layout.specs.Valid.{Valid}
 use Rattle.kern_layout.specs.Shown.{shown}
+use Rattle.kern_layout.specs.Fits.{IsWord, StateInWords, InBytes}
 use Rattle.kern_layout.specs.Start.{SizesFit, start}
 use Rattle.kern_layout.specs.Stands.{Side, Stands, SameUser, user_sr}
 use Rattle.kern_layout.specs.Numbers.{threads_at}
 
--- each valid state is read from a memory, which differs from a given one in the data ranges alone
+-- Each valid state is read from a memory, which differs from a given one in the data ranges alone. Where the state's numbers are words and the given memory has bytes, it has bytes.
 abbrev pub EachIsRead : Type 0
-EachIsRead = (s : KernelState) → Valid s → (given : Memory) → (m : Memory) × Reads s (word m) (byte m) × ((a : ℕ) → (a < threads_at) ⊎ (0x10000 ≤ a) → byte m a ≡ byte given a)
+EachIsRead = (s : KernelState) → Valid s → (given : Memory) → (m : Memory) × Reads s (word m) (byte m) × ((a : ℕ) → (a < threads_at) ⊎ (0x10000 ≤ a) → byte m a ≡ byte given a) × (StateInWords s → InBytes given → InBytes m)
 
 -- the processor on the user side with a state's running context
 abbrev pub side_of : KernelState → Side
@@ -38,3 +39,7 @@ StandsOne = (p : Side) (m : Memory) (rom : List ℕ) (s t : KernelState) → Val
 -- the state as a program begins is valid
 abbrev pub StartsValid : Type 0
 StartsValid = (pc gp stack : ℕ) (m : Memory) (sizes : Sizes) → SizesFit sizes → Valid (start pc gp stack m sizes)
+
+-- and its numbers are words, where those of the program are
+abbrev pub StartsInWords : Type 0
+StartsInWords = (pc gp stack : ℕ) (m : Memory) (sizes : Sizes) → IsWord pc → IsWord gp → IsWord stack → StateInWords (start pc gp stack m sizes)

@@ -1,5 +1,5 @@
 //! The laws of the kernel's state in memory, as the kernel's code may use them: each function's contract is the law, for every state, and the function does nothing.
-ghost use Rattle.kern_layout.specs.StateLaws.{EachIsRead, EachStands, ReadsOne, StandsOne, StartsValid};
+ghost use Rattle.kern_layout.specs.StateLaws.{EachIsRead, EachStands, ReadsOne, StandsOne, StartsValid, StartsInWords};
 ghost use Rattle.kern_layout.specs.OwnRange.{ThreadsOwn, EventsOwn, FramesOwn, ChainsOwn, HeapOwn, FilesOwn, LineOwn, VariablesOwn, FreeWords};
 ghost use Rattle.kern_layout.specs.MemoryLaws.{WordStored, LineKept, ByteStored};
 ghost use Rattle.kern_layout.specs.StoreLaws.{ThreadWritten, ThreadStored, ThreadFreed, ThreadSwitched, EventWritten, EventStored, EventStatusStored, FileStored, VariableStored, FrameWritten, FrameContextStored, FrameTaskStored, FramePushed, FramesDropped, TaskStored, TaskDone, ElementTaken, LineTaken, ChainWritten, ChainLinked, ChainUnlinked, LineStored, LineAppended, LineEmptied, HeapWritten, BlockStored, BlockUnlinked, BlockLinked, ContextCopied, TasksCopied, FrameCopied, StackMore, StackJoined};
@@ -13,6 +13,7 @@ pub fn states()
     ensures reads_one { ReadsOne }
     ensures stands_one { StandsOne }
     ensures starts_valid { StartsValid }
+    ensures starts_in_words { StartsInWords }
 {}
 
 /// Each table is read from its own range alone.
