@@ -7,7 +7,8 @@ use Rattle.abs_kernel.specs.Cause.{entrance_of}
 use Rattle.abs_kernel.specs.Stay.{Stay, Return, Halt, Ask, Tell, Write, Touch}
 use Rattle.abs_kernel.specs.Sys.{syscall}
 use Rattle.abs_kernel.specs.KernelStep.{settled_state, by_entrance, stay_of}
-use Rattle.abs_kernel.specs.StayLaws.{settled_registers, InterruptsGivenBack}
+use Rattle.abs_kernel.specs.StayLaws.{settled_registers}
+use Rattle.abs_kernel.specs.ProgramLaws.{InterruptsGivenBack}
 
 -- the stay of a SYSCALL is that of its number
 stay_is : (s : KernelState) (code n : ℕ) → entrance_of s.running.context code ≡ BySyscall → (settled_registers s).r4 ≡ n → stay_of s code ≡ syscall n (settled_state s)

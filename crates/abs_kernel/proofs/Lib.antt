@@ -4,4 +4,5 @@ pub mod Ends
 pub mod Unserved
 pub mod Lists
 pub mod Critical
+pub mod Waiting
 pub mod UserSteps

@@ -7,7 +7,8 @@ use Rattle.kern_layout.specs.Valid.{Valid}
 use Rattle.abs_kernel.specs.Stay.{Stay, Return, Halt, Ask, Tell, Write, Touch}
 use Rattle.abs_kernel.specs.KernelStep.{stay_of}
 use Rattle.abs_kernel.specs.Played.{Asked, Told, Written, End, Returned, Halted, Short, after, played}
-use Rattle.abs_kernel.specs.StayLaws.{EachEnd, PlayedKeeps, HaltedKeeps, AnswersInOrder, MoreAnswers, EnoughAnswers}
+use Rattle.abs_kernel.specs.StayLaws.{EachEnd}
+use Rattle.abs_kernel.specs.PlayedLaws.{PlayedKeeps, HaltedKeeps, AnswersInOrder, MoreAnswers, EnoughAnswers}
 use Rattle.abs_kernel.proofs.Ends.{memory_kept, valid_kept}
 
 -- what holds of each end of a stay, of the end with a list of answers

@@ -11,5 +11,7 @@ pub mod Played
 pub mod Touched
 pub mod CauseLaws
 pub mod StayLaws
+pub mod PlayedLaws
+pub mod ProgramLaws
 pub mod UserLaws
 pub mod Equations

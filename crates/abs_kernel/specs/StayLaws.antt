@@ -1,5 +1,5 @@
 -- What holds of stays.
-use Rattle.std.specs.Prelude.{◌≡◌, ℕ, ◌≢◌, ◌<◌, false, List, ◌++◌, None}
+use Rattle.std.specs.Prelude.{◌≡◌, ℕ, ◌<◌, None}
 use Rattle.psx_base.specs.declared.stop.Stop.{Stop}
 use Rattle.psx_base.specs.declared.stop.Stop.TheVariants.{Unserved}
 use Rattle.psx_base.specs.declared.stop.Table.{Table}
@@ -14,7 +14,6 @@ use Rattle.abs_kernel.specs.CallTable.{served_call}
 use Rattle.abs_kernel.specs.Cause.{entrance_of}
 use Rattle.abs_kernel.specs.Stay.{Stay, Return, Halt, Ask, Tell, Write, Touch}
 use Rattle.abs_kernel.specs.KernelStep.{stay_of}
-use Rattle.abs_kernel.specs.Played.{Access, Returned, Halted, Short, played, answers_of}
 
 -- each end of a stay, whatever the ports answer: what holds of the states that it returns with, and of the stops and memories that it halts with
 abbrev pub EachEnd : (KernelState → Type 0) → (Stop → Memory → Type 0) → Stay → Type 0
@@ -75,36 +74,3 @@ ReturnsAtRest = (s : KernelState) (code : ℕ) → EachReturn (λ t. IsAtRest t.
 -- it keeps the state valid
 abbrev pub ValidKept : Type 0
 ValidKept = (s : KernelState) (code : ℕ) → Valid s → EachReturn Valid (stay_of s code)
-
--- ---- stays with a list of answers
-
--- with any answers a stay keeps the state valid and the memory
-abbrev pub PlayedKeeps : Type 0
-PlayedKeeps = (s t : KernelState) (code : ℕ) (answers : List ℕ) → (played (stay_of s code) answers).end ≡ Returned t → (Valid s → Valid t) × (t.memory ≡ s.memory)
-
-abbrev pub HaltedKeeps : Type 0
-HaltedKeeps = (s : KernelState) (code : ℕ) (answers : List ℕ) (stop : Stop) (memory : Memory) → (played (stay_of s code) answers).end ≡ Halted stop memory → memory ≡ s.memory
-
--- the answers are used in order, one for each read, from the first on
-abbrev pub AnswersInOrder : Type 0
-AnswersInOrder = (stay : Stay) (answers : List ℕ) → (rest : List ℕ) × (answers ≡ answers_of (played stay answers).accesses ++ rest)
-
--- the accesses before a read don't depend on later answers
-abbrev pub MoreAnswers : Type 0
-MoreAnswers = (stay : Stay) (answers more : List ℕ) → (rest : List Access) × ((played stay (answers ++ more)).accesses ≡ (played stay answers).accesses ++ rest)
-
--- answers behind the ones that a stay uses change nothing
-abbrev pub EnoughAnswers : Type 0
-EnoughAnswers = (stay : Stay) (answers more : List ℕ) → (played stay answers).end ≢ Short → played stay (answers ++ more) ≡ played stay answers
-
--- ---- the interrupt state
-
--- SYSCALL 1 turns interrupts off and answers what they were, and SYSCALL 2 turns them on. So where the first answered 1, a later second gives the state back,
--- and where it answered 0, the state is as it was.
-pub record CriticalSection (s t : KernelState) : Type 0 where
-  pub off : t.running.interrupts ≡ false
-  pub was_on : t.running.context.regs.r2 ≡ 1 → (later last : KernelState) (code : ℕ) → entrance_of later.running.context code ≡ BySyscall → (settled_registers later).r4 ≡ 2 → stay_of later code ≡ Return last → last.running.interrupts ≡ s.running.interrupts
-  pub was_off : t.running.context.regs.r2 ≡ 0 → t.running.interrupts ≡ s.running.interrupts
-
-abbrev pub InterruptsGivenBack : Type 0
-InterruptsGivenBack = (s : KernelState) (code : ℕ) → entrance_of s.running.context code ≡ BySyscall → (settled_registers s).r4 ≡ 1 → (t : KernelState) × (stay_of s code ≡ Return t) × CriticalSection s t

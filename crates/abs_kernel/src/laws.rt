@@ -1,6 +1,8 @@
 //! The laws of the written kernel machine: each function's contract is the law, for every state, and the function does nothing.
 ghost use Rattle.abs_kernel.specs.CauseLaws.{EntriesKept, EntriesTold};
-ghost use Rattle.abs_kernel.specs.StayLaws.{UnservedStops, MemoryKept, RestKept, ReturnsAtRest, ValidKept, PlayedKeeps, HaltedKeeps, AnswersInOrder, MoreAnswers, EnoughAnswers, InterruptsGivenBack};
+ghost use Rattle.abs_kernel.specs.StayLaws.{UnservedStops, MemoryKept, RestKept, ReturnsAtRest, ValidKept};
+ghost use Rattle.abs_kernel.specs.PlayedLaws.{PlayedKeeps, HaltedKeeps, AnswersInOrder, MoreAnswers, EnoughAnswers};
+ghost use Rattle.abs_kernel.specs.ProgramLaws.{InterruptsGivenBack, EnteredAgain};
 ghost use Rattle.abs_kernel.specs.UserLaws.{UserStepKeepsValid};
 
 /// After an entry the processor has it in Cause, EPC and its registers, and by these it can be told by what the kernel was entered.
@@ -36,6 +38,11 @@ pub fn played_stays()
 /// SYSCALL 1 turns interrupts off and answers whether they were on, and a later SYSCALL 2 gives that back.
 pub fn critical_sections()
     ensures { InterruptsGivenBack }
+{}
+
+/// A call that waits returns to its own gate, with the same call to be made again. No call waits yet.
+pub fn waiting_calls()
+    ensures { EnteredAgain }
 {}
 
 /// A step of user code that goes on keeps a valid state valid.
