@@ -1,0 +1,29 @@
+-- A number that isn't served stops with itself.
+use Rattle.std.proofs.Common.{◌≡◌, ℕ, zero, suc, ◌<◌, refl, ap, ◌∙◌, arith}
+use Rattle.psx_base.specs.declared.stop.Table.{Table}
+use Rattle.psx_base.specs.declared.stop.Table.TheVariants.{A, B, C, Sys}
+use Rattle.psx_base.specs.declared.stop.Stop.TheVariants.{Unserved}
+use Rattle.psx_base.specs.Context.{epc_of}
+use Rattle.psx_base.specs.Items.{Entrance}
+use Rattle.psx_base.specs.KernelState.{KernelState}
+use Rattle.abs_kernel.specs.Stay.{Halt}
+use Rattle.abs_kernel.specs.Calls.{by_row}
+use Rattle.abs_kernel.specs.Sys.{syscall}
+use Rattle.abs_kernel.specs.KernelStep.{settled_state, by_entrance, stay_of}
+use Rattle.abs_kernel.specs.StayLaws.{to_table, unserved, IsUnserved, UnservedStops}
+
+syscall_stops : (s : KernelState) (n : ℕ) → 2 < n → syscall n s ≡ Halt (Unserved Sys n (epc_of s.running.context)) s.memory
+syscall_stops s zero h = absurd (omega arith)
+syscall_stops s (suc zero) h = absurd (omega arith)
+syscall_stops s (suc (suc zero)) h = absurd (omega arith)
+syscall_stops s (suc (suc (suc n))) h = refl
+
+table_stops : (s : KernelState) (code : ℕ) (table : Table) → IsUnserved table s → by_entrance (to_table table) code (settled_state s) ≡ Halt (unserved table s) s.memory
+table_stops s code A h = ap (λ row. by_row A row (settled_state s)) h
+table_stops s code B h = ap (λ row. by_row B row (settled_state s)) h
+table_stops s code C h = ap (λ row. by_row C row (settled_state s)) h
+table_stops s code Sys h = syscall_stops (settled_state s) _ h
+
+pub unserved_stops : UnservedStops
+unfolding stay_of
+unserved_stops s code table e h = ap (λ (by : Entrance). by_entrance by code (settled_state s)) e ∙ table_stops s code table h

@@ -1,0 +1,44 @@
+-- The calls that are served, with their numbers, arguments and names (PSX-SPX, Kernel (BIOS), function summary).
+use Rattle.std.specs.Prelude.{ℕ, nat_eq, codes, List, [], ◌∷◌, Option, Some, None, if◌then◌else◌}
+use Rattle.psx_base.specs.declared.stop.Table.{Table}
+use Rattle.psx_base.specs.declared.stop.Table.TheVariants.{A, B, C, Sys}
+use Rattle.abs_kernel.specs.declared.calls.CallId.{CallId}
+use Rattle.abs_kernel.specs.declared.calls.CallId.TheVariants.{A06, A3A, A3C, B38, B3D}
+
+-- the rows of each table: a number and its call
+abbrev pub calls_of_a : List (ℕ × CallId)
+calls_of_a = (0x06, A06) ∷ (0x3A, A3A) ∷ (0x3C, A3C) ∷ []
+
+abbrev pub calls_of_b : List (ℕ × CallId)
+calls_of_b = (0x38, B38) ∷ (0x3D, B3D) ∷ []
+
+-- a SYSCALL's number is none of a call
+abbrev pub calls_of : Table → List (ℕ × CallId)
+calls_of A = calls_of_a
+calls_of B = calls_of_b
+calls_of C = []
+calls_of Sys = []
+
+-- the call of a number among rows
+abbrev pub call_in : List (ℕ × CallId) → ℕ → Option CallId
+call_in [] number = None
+call_in (row ∷ rows) number = if nat_eq number row.0 then Some row.1 else call_in rows number
+
+-- the call that a table has at a number
+abbrev pub served_call : Table → ℕ → Option CallId
+served_call table number = call_in (calls_of table) number
+
+-- how many arguments a call takes
+abbrev pub arguments : CallId → ℕ
+arguments A06 = 1
+arguments A3A = 1
+arguments A3C = 1
+arguments B38 = 1
+arguments B3D = 1
+
+abbrev pub name_of : CallId → List ℕ
+name_of A06 = codes "exit"
+name_of A3A = codes "_exit"
+name_of A3C = codes "putchar"
+name_of B38 = codes "exit"
+name_of B3D = codes "putchar"

@@ -1,0 +1,17 @@
+pub mod CallTable
+pub mod Cause
+pub mod Stay
+pub mod Answered
+pub mod Exits
+pub mod Console
+pub mod Calls
+pub mod Sys
+pub mod KernelStep
+pub mod Played
+pub mod Touched
+pub mod CauseLaws
+pub mod StayLaws
+pub mod PlayedLaws
+pub mod ProgramLaws
+pub mod UserLaws
+pub mod Equations

@@ -1,0 +1,12 @@
+//! The calls that the kernel serves: which numbers they have, their arguments and names. Its specifications are the written kernel machine's stays:
+//! what each entry into the kernel does, as a program that asks the ports and ends in a state or a stop (specs/KernelStep.antt).
+//! The kernel's code meets these stays, and the run of the whole machine is made of them.
+#![tactic(auto)]
+
+pub mod calls;
+pub mod equations;
+pub mod laws;
+#[cfg(test)]
+mod tests;
+
+pub use calls::{CallId, args, name, served};
