@@ -1,0 +1,6 @@
+pub mod Starts
+pub mod Prefixes
+pub mod Names
+pub mod OneKind
+pub mod Texts
+pub mod Magnitudes
