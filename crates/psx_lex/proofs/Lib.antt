@@ -4,3 +4,6 @@ pub mod Names
 pub mod OneKind
 pub mod Texts
 pub mod Magnitudes
+pub mod Numbers
+pub mod Marks
+pub mod Lines

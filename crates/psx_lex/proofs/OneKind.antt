@@ -6,7 +6,7 @@ use Rattle.std.proofs.lemmas.Bool.{false≢true}
 use Rattle.psx_lex.specs.declared.token.Kind.{Kind}
 use Rattle.psx_lex.specs.declared.token.Kind.TheVariants.{Name, Directive, Number, Text, Mark}
 use Rattle.psx_lex.specs.Lexeme.{IsMagnitude, IsNumber, IsLexeme, IsLongest, Fits, BeginsToken, BeginsNone}
-use Rattle.psx_lex.proofs.Starts.{magnitude_starts, lexeme_starts, lexeme_some, starts_rank, rank, only_name, only_directive, only_text, only_mark}
+use Rattle.psx_lex.proofs.Starts.{magnitude_starts, rank_of, rank, only_name, only_directive, only_text, only_mark}
 
 not_digits : (c : ℕ) (word cs : List ℕ) → AllDigits 10 word → (d : ℕ) → word ≡ d ∷ c ∷ cs → c ≡ 120 → ⊥
 not_digits c word cs digits d e x =
@@ -33,7 +33,7 @@ magnitude_same word m n = ⊎_elim
     (⊎_elim (λ hex. let wrong : 48 ≡ 39 = two_bytes 48 39 word (120 ∷ hex.0) (m ∷ 39 ∷ []) hex.1 quoted.0 in absurd (omega arith))
     (λ other. cc (quoted.0, other.0)))))
 
-not_minus : (word magnitude : List ℕ) (m : ℕ) → IsMagnitude word m → word ≡ 45 ∷ magnitude → ⊥
+pub not_minus : (word magnitude : List ℕ) (m : ℕ) → IsMagnitude word m → word ≡ 45 ∷ magnitude → ⊥
 not_minus word magnitude m form e = ⊎_elim (λ digit. false≢true digit) (λ quote. absurd (omega arith))
     (magnitude_starts 45 magnitude m (subst (λ (w : List ℕ). IsMagnitude w m) e form))
 
@@ -47,7 +47,7 @@ number_same word a b = ⊎_elim
     let form = subst (λ (w : List ℕ). IsMagnitude w other.1) same other.3 in
     minus.4 ∙ ap (λ (n : ℕ). neg_ℤ (pos n)) (magnitude_same minus.0 minus.1 other.1 minus.3 form) ∙ sym other.4))
 
-pub same_rank : (k l : Kind) (word : List ℕ) → rank k ≡ rank l → IsLexeme k word → IsLexeme l word → k ≡ l
+same_rank : (k l : Kind) (word : List ℕ) → rank k ≡ rank l → IsLexeme k word → IsLexeme l word → k ≡ l
 same_rank Name l word e a b = sym (only_name l (sym e))
 same_rank Directive l word e a b = sym (only_directive l (sym e))
 same_rank Text l word e a b = sym (only_text l (sym e))
@@ -58,14 +58,11 @@ same_rank (Number x) Directive word e a b = absurd (omega arith)
 same_rank (Number x) Text word e a b = absurd (omega arith)
 same_rank (Number x) Mark word e a b = absurd (omega arith)
 
-same_kind : (k l : Kind) (word : List ℕ) → IsLexeme k word → IsLexeme l word → k ≡ l
-same_kind k l [] a b = absurd (lexeme_some k a)
-same_kind k l (c ∷ cs) a b = same_rank k l (c ∷ cs) (starts_rank k c (lexeme_starts k c cs a) ∙ sym (starts_rank l c (lexeme_starts l c cs b))) a b
-
 pub same_longest : (text : List ℕ) (k l : Kind) (m n : ℕ) → IsLongest text k m → IsLongest text l n → (k ≡ l) × (m ≡ n)
 same_longest text k l m n a b =
     let len : m ≡ n = omega (arith, a.longest l n b.within b.form, b.longest k m a.within a.form) in
-    (same_kind k l (take n text) (subst (λ (i : ℕ). IsLexeme k (take i text)) len a.form) b.form, len)
+    let rank = rank_of text k m a.within a.form ∙ sym (rank_of text l n b.within b.form) in
+    (same_rank k l (take n text) rank (subst (λ (i : ℕ). IsLexeme k (take i text)) len a.form) b.form, len)
 
 -- where the longest lexeme is no token, none is
 pub none_fits : (text : List ℕ) (k : Kind) (m : ℕ) → IsLongest text k m → (Fits k m → ⊥) → BeginsNone text

@@ -36,7 +36,7 @@ magnitude_starts c cs n = ⊎_elim
     (⊎_elim (λ hex. inl (let e : c ≡ 48 = cc (hex.1) in subst (λ (c : ℕ). is_ascii_digit c ≡ true) (sym e) refl))
     (λ quoted. inr (cc (quoted.0))))
 
-pub lexeme_starts : (k : Kind) (c : ℕ) (cs : List ℕ) → IsLexeme k (c ∷ cs) → starts k c ≡ true
+lexeme_starts : (k : Kind) (c : ℕ) (cs : List ℕ) → IsLexeme k (c ∷ cs) → starts k c ≡ true
 lexeme_starts Name c cs form = form.0
 lexeme_starts Directive c cs form = eq-eqb c 46 (cc (form.1))
 lexeme_starts (Number value) c cs form = ⊎_elim
@@ -58,7 +58,7 @@ lexeme_some Mark form = cc (form.1)
 at_byte : (b c : ℕ) (r : ℕ) → rank_at b ≡ r → (c == b) ≡ true → r ≡ rank_at c
 at_byte b c r e same = sym e ∙ ap rank_at (sym (eqb-true c b same))
 
-pub starts_rank : (k : Kind) (c : ℕ) → starts k c ≡ true → rank k ≡ rank_at c
+starts_rank : (k : Kind) (c : ℕ) → starts k c ≡ true → rank k ≡ rank_at c
 starts_rank Name c pass = sym (cond-true (is_name_start c) 0 (cond (c == 46) 1 (cond (c == 34) 3 (cond (is_mark c) 4 2))) pass)
 starts_rank Directive c pass = at_byte 46 c 1 refl pass
 starts_rank (Number value) c pass = ⊎_elim (λ digit. grind (arith, nat_tests))
@@ -68,11 +68,15 @@ starts_rank Mark c pass = ⊎_elim
     (λ one. ⊎_elim (at_byte 58 c 4 refl) (at_byte 40 c 4 refl) (or_cases (c == 58) (c == 40) one))
     (λ other. ⊎_elim (at_byte 41 c 4 refl) (at_byte 43 c 4 refl) (or_cases (c == 41) (c == 43) other)) (or_cases (c == 58 || c == 40) (c == 41 || c == 43) pass)
 
+-- the byte that a lexeme begins with
+pub starts_of : (text : List ℕ) (k : Kind) (n : ℕ) → n ≤ length text → IsLexeme k (take n text) → starts k (slice_index text 0) ≡ true
+starts_of text k zero within form = absurd (lexeme_some k form)
+starts_of [] k (suc n) within form = absurd (omega arith)
+starts_of (c ∷ cs) k (suc n) within form = lexeme_starts k c (take n cs) form
+
 -- the kind of a lexeme that a text begins with
 pub rank_of : (text : List ℕ) (k : Kind) (n : ℕ) → n ≤ length text → IsLexeme k (take n text) → rank k ≡ rank_at (slice_index text 0)
-rank_of text k zero within form = absurd (lexeme_some k form)
-rank_of [] k (suc n) within form = absurd (omega arith)
-rank_of (c ∷ cs) k (suc n) within form = starts_rank k c (lexeme_starts k c (take n cs) form)
+rank_of text k n within form = starts_rank k (slice_index text 0) (starts_of text k n within form)
 
 pub some_bytes : (text : List ℕ) (k : Kind) (n : ℕ) → IsLexeme k (take n text) → 0 < n
 some_bytes text k zero form = absurd (lexeme_some k form)
@@ -105,3 +109,6 @@ only_mark Name e = absurd (omega arith)
 only_mark Directive e = absurd (omega arith)
 only_mark (Number value) e = absurd (omega arith)
 only_mark Text e = absurd (omega arith)
+
+pub mark_rank : (c : ℕ) → is_mark c ≡ true → rank_at c ≡ 4
+mark_rank c pass = sym (starts_rank Mark c pass)

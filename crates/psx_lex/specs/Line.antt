@@ -37,3 +37,7 @@ abbrev pub IsTokensOf : List ℕ → Result (List Token) LexError → Type 0
 IsTokensOf line (Ok tokens) = (to : ℕ) × HasTokens line 0 tokens to × Ends line to
 IsTokensOf line (Err (BadToken at)) = (before : List Token) × HasTokens line 0 before at × IsBadAt line at
 IsTokensOf line (Err Memory) = ⊥
+
+-- each line has tokens, or has one first byte that begins none
+abbrev pub HasOneAnswer : List ℕ → Type 0
+HasOneAnswer line = (answer : Result (List Token) LexError) × IsTokensOf line answer × ((other : Result (List Token) LexError) → IsTokensOf line other → other ≡ answer)

@@ -11,5 +11,5 @@ mod number;
 mod tests;
 mod token;
 
-pub use line::tokens;
+pub use line::{tokens, tokens_or_fault};
 pub use token::{Kind, LexError, Token};
