@@ -7,3 +7,5 @@ pub mod Magnitudes
 pub mod Numbers
 pub mod Marks
 pub mod Lines
+pub mod EachText
+pub mod EachLine

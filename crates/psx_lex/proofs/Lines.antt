@@ -1,6 +1,6 @@
 -- How the tokens of a line grow, and that they are the only ones.
-use Rattle.std.proofs.Common.{◌≡◌, ◌≢◌, ℕ, suc, ◌+◌, ◌-◌, ◌<◌, ◌≤◌, Bool, true, false, ◌||◌, ◌==◌, List, [], ◌∷◌, ◌++◌, length, drop, slice_index, Result, Ok, Err, refl, sym, ap, subst, ◌∙◌, ◌⊎◌, inl, inr, ⊎_elim, length-drop, arith}
-use Rattle.std.proofs.lemmas.Bool.{cases_lt, both_ways, eqb-true, eq-eqb, or_cases, or_left, or_right}
+use Rattle.std.proofs.Common.{◌≡◌, ℕ, ◌+◌, ◌-◌, ◌<◌, ◌≤◌, true, false, ◌||◌, ◌==◌, List, [], ◌∷◌, ◌++◌, length, drop, slice_index, Result, Ok, Err, refl, sym, ap, subst, ◌∙◌, ◌⊎◌, inl, inr, ⊎_elim, length-drop, arith}
+use Rattle.std.proofs.lemmas.Bool.{cases_lt, both_ways, eqb-true, or_cases}
 use Rattle.std.proofs.lemmas.List.{get_or-drop}
 use Rattle.psx_lex.specs.declared.token.Kind.{Kind}
 use Rattle.psx_lex.specs.declared.token.Kind.TheVariants.{Name, Directive, Number, Text, Mark}
@@ -58,18 +58,21 @@ is_void c k void start =
     no_space (Number value) = refl
     no_space Text = refl
     no_space Mark = refl
+
     no_tab : (k : Kind) → starts k 9 ≡ false
     no_tab Name = refl
     no_tab Directive = refl
     no_tab (Number value) = refl
     no_tab Text = refl
     no_tab Mark = refl
+
     no_comma : (k : Kind) → starts k 44 ≡ false
     no_comma Name = refl
     no_comma Directive = refl
     no_comma (Number value) = refl
     no_comma Text = refl
     no_comma Mark = refl
+
     no_comment : (k : Kind) → starts k 35 ≡ false
     no_comment Name = refl
     no_comment Directive = refl

@@ -1,5 +1,5 @@
 -- The name or the directive that a text begins with.
-use Rattle.std.proofs.Common.{◌≡◌, ℕ, zero, suc, ◌+◌, ◌<◌, ◌≤◌, Bool, true, false, cond, ◌==◌, List, [], ◌∷◌, ◌++◌, length, take, drop, slice_index, refl, sym, ap, subst, ◌∙◌, arith}
+use Rattle.std.proofs.Common.{◌≡◌, ℕ, zero, suc, ◌≤◌, true, false, cond, ◌==◌, List, [], ◌∷◌, length, take, drop, slice_index, sym, ap, subst, ◌∙◌, arith}
 use Rattle.std.specs.List.{prefix_len, list_all}
 use Rattle.std.proofs.lemmas.Bool.{false≢true, and_from, cond-true, both_ways}
 use Rattle.std.proofs.lemmas.Bool.Decides.{nat_tests}
@@ -7,7 +7,7 @@ use Rattle.std.proofs.lemmas.List.Sums.{prefix_len-le-length}
 use Rattle.psx_lex.specs.declared.token.Kind.{Kind}
 use Rattle.psx_lex.specs.declared.token.Kind.TheVariants.{Name, Directive}
 use Rattle.psx_lex.specs.Lexeme.{is_name_start, is_name_byte, IsName, is_mark, IsLexeme, IsLongest, BeginsNone}
-use Rattle.psx_lex.proofs.Starts.{rank, rank_at, rank_of, lexeme_some, only_name, only_directive}
+use Rattle.psx_lex.proofs.Starts.{rank_at, rank_of, lexeme_some, only_name, only_directive}
 use Rattle.psx_lex.proofs.Prefixes.{prefix_more, prefix_most, prefix_all}
 
 start_is_byte : (c : ℕ) → is_name_start c ≡ true → is_name_byte c ≡ true

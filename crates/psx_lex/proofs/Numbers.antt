@@ -1,12 +1,12 @@
 -- The number that a text begins with, with its sign.
-use Rattle.std.proofs.Common.{◌≡◌, ◌≢◌, ℕ, zero, suc, ◌+◌, ◌<◌, ◌≤◌, ◌^◌, ℤ, pos, negsuc, neg_ℤ, ◌≤ℤ◌, Bool, true, false, cond, ◌||◌, ◌==◌, List, [], ◌∷◌, ◌++◌, length, take, drop, slice_index, refl, sym, ap, subst, ◌∙◌, ◌⊎◌, inl, inr, ⊎_elim, arith}
+use Rattle.std.proofs.Common.{◌≡◌, ◌≢◌, ℕ, zero, suc, ◌<◌, ◌≤◌, ℤ, pos, negsuc, neg_ℤ, ◌≤ℤ◌, ◌||◌, ◌==◌, List, [], ◌∷◌, length, take, drop, slice_index, refl, sym, ap, subst, ◌∙◌, inl, inr, ⊎_elim, arith}
 use Rattle.std.proofs.lemmas.Bool.{cond-false, or_parts}
 use Rattle.std.proofs.lemmas.Int.{ints}
 use Rattle.psx_lex.specs.declared.token.Kind.{Kind}
 use Rattle.psx_lex.specs.declared.token.Kind.TheVariants.{Name, Directive, Number, Text, Mark}
-use Rattle.psx_lex.specs.Lexeme.{is_name_start, is_mark, IsMagnitude, IsNumber, IsLexeme, IsLongest, Fits, BeginsToken, BeginsNone}
+use Rattle.psx_lex.specs.Lexeme.{is_name_start, is_mark, IsMagnitude, IsNumber, IsLexeme, IsLongest, Fits, BeginsNone}
 use Rattle.psx_lex.specs.Magnitude.{IsLongestMagnitude, HasNoMagnitude, BeginsNoOther}
-use Rattle.psx_lex.proofs.Starts.{rank, rank_at, rank_of, some_bytes, magnitude_starts}
+use Rattle.psx_lex.proofs.Starts.{rank, rank_at, rank_of, some_bytes}
 use Rattle.psx_lex.proofs.OneKind.{not_minus}
 
 rank_other : (c : ℕ) → BeginsNoOther c → rank_at c ≡ 2
@@ -93,3 +93,9 @@ no_minus (c ∷ cs) sign nothing k n token =
       longest = λ more other within form.
           omega (arith, there.2, token.lexeme.longest (Number (neg_ℤ (pos other))) (suc more) (omega arith) (inr (take more cs, other, (λ i. sign i ∷ take more cs), form, refl)));
     })
+
+pub minus_fits : (v : ℕ) → v ≤ 2147483648 → (negsuc 2147483647 ≤ℤ neg_ℤ (pos v)) × (neg_ℤ (pos v) ≤ℤ pos 4294967295)
+minus_fits v small = (omega (arith, ints), omega (arith, ints))
+
+pub minus_large : (v : ℕ) → 2147483648 < v → negsuc 2147483647 ≤ℤ neg_ℤ (pos v) → ⊥
+minus_large v large fits = absurd (omega (arith, ints))

@@ -1,11 +1,10 @@
 -- A lexeme has one kind, so a text begins with one token at most.
-use Rattle.std.proofs.Common.{◌≡◌, ℕ, zero, suc, ◌+◌, ◌<◌, ◌≤◌, ℤ, pos, neg_ℤ, Bool, true, false, List, [], ◌∷◌, ◌++◌, length, take, slice_index, refl, sym, ap, subst, ◌∙◌, ◌⊎◌, inl, inr, ⊎_elim, arith}
-use Rattle.std.specs.Char.{is_ascii_digit}
+use Rattle.std.proofs.Common.{◌≡◌, ℕ, ℤ, pos, neg_ℤ, List, [], ◌∷◌, take, refl, sym, ap, subst, ◌∙◌, ⊎_elim, arith}
 use Rattle.std.specs.Str.Parse.{AllDigits, digits_value}
 use Rattle.std.proofs.lemmas.Bool.{false≢true}
 use Rattle.psx_lex.specs.declared.token.Kind.{Kind}
 use Rattle.psx_lex.specs.declared.token.Kind.TheVariants.{Name, Directive, Number, Text, Mark}
-use Rattle.psx_lex.specs.Lexeme.{IsMagnitude, IsNumber, IsLexeme, IsLongest, Fits, BeginsToken, BeginsNone}
+use Rattle.psx_lex.specs.Lexeme.{IsMagnitude, IsNumber, IsLexeme, IsLongest, Fits, BeginsNone}
 use Rattle.psx_lex.proofs.Starts.{magnitude_starts, rank_of, rank, only_name, only_directive, only_text, only_mark}
 
 not_digits : (c : ℕ) (word cs : List ℕ) → AllDigits 10 word → (d : ℕ) → word ≡ d ∷ c ∷ cs → c ≡ 120 → ⊥

@@ -1,13 +1,13 @@
 -- The text in double quotes that a text begins with.
 use Rattle.std.proofs.Common.{◌≡◌, ◌≢◌, ℕ, zero, suc, ◌+◌, ◌<◌, ◌≤◌, Bool, true, false, cond, ◌||◌, ◌==◌, nat_lt, List, [], ◌∷◌, ◌++◌, length, take, drop, slice_index, All, Option, Some, None, refl, sym, ap, subst, ◌∙◌, ◌⊎◌, inl, inr, ⊎_elim, append_assoc, length-append, length-take, get_or, arith}
 use Rattle.std.specs.List.{flat_map}
-use Rattle.std.proofs.lemmas.Bool.{cond-true, cond-false, cases_Bool, cases_eq, cases_lt, eqb-true, eqb-false, eq-eqb, ne_eqb, ltb-true, ltb-false, lt-ltb, le-ltb, or_cases}
+use Rattle.std.proofs.lemmas.Bool.{cond-true, cond-false, cases_Bool, cases_eq, eqb-true, eqb-false, eq-eqb, ne_eqb, ltb-false, lt-ltb, le-ltb, or_cases}
 use Rattle.std.proofs.lemmas.List.{take-append-drop, at_drop_more, at_drop_all}
 use Rattle.std.proofs.lemmas.List.Elements.{All-nil, All-cons, All-head, All-tail}
 use Rattle.std.proofs.Math.Seq.{take-append_seam}
 use Rattle.psx_lex.specs.declared.token.Kind.{Kind}
 use Rattle.psx_lex.specs.declared.token.Kind.TheVariants.{Text}
-use Rattle.psx_lex.specs.Lexeme.{written, IsWritable, IsTextOf, is_escape, IsLexeme, IsLongest, BeginsNone}
+use Rattle.psx_lex.specs.Lexeme.{written, IsWritable, is_escape, IsLexeme, IsLongest, BeginsNone}
 use Rattle.psx_lex.proofs.Starts.{rank_at, rank_of, lexeme_some, only_text}
 
 -- the number of bytes up to the closing quote, behind some that were passed and perhaps a backslash
@@ -30,7 +30,7 @@ step_plain c n cs low slash quote =
 escaped : (e : ℕ) → is_escape e ≡ true → (b : ℕ) × IsWritable b × (written b ≡ 92 ∷ e ∷ [])
 escaped e holds =
     let at = λ (x b : ℕ) (can : IsWritable b) (same : written b ≡ 92 ∷ x ∷ []) (is : (e == x) ≡ true).
-        (let pair : (b : ℕ) × IsWritable b × (written b ≡ 92 ∷ e ∷ []) = (b, can, same ∙ ap (λ (y : ℕ). 92 ∷ y ∷ []) (sym (eqb-true e x is))) in pair) in
+    (let pair : (b : ℕ) × IsWritable b × (written b ≡ 92 ∷ e ∷ []) = (b, can, same ∙ ap (λ (y : ℕ). 92 ∷ y ∷ []) (sym (eqb-true e x is))) in pair) in
     ⊎_elim (λ one. ⊎_elim (at 110 10 (inr (inl refl)) refl) (at 116 9 (inr (inr (inl refl))) refl) (or_cases (e == 110) (e == 116) one))
     (λ other. ⊎_elim (at 48 0 (inr (inr (inr refl))) refl)
     (λ rest. ⊎_elim (at 92 92 (inl (omega arith)) refl) (at 34 34 (inl (omega arith)) refl) (or_cases (e == 92) (e == 34) rest))
@@ -99,7 +99,7 @@ step_written b k rest can =
     (λ low. ⊎_elim (λ slash. subst at (sym slash) two)
     (λ slash. ⊎_elim (λ quote. subst at (sym quote) two)
     (λ quote. ap (λ (w : List ℕ). text_end false k (w ++ rest)) (plain b low slash quote) ∙ step_plain b k rest low slash quote
-        ∙ ap (λ (w : List ℕ). text_end false (k + length w) rest) (sym (plain b low slash quote))) (cases_eq b 34)) (cases_eq b 92))
+    ∙ ap (λ (w : List ℕ). text_end false (k + length w) rest) (sym (plain b low slash quote))) (cases_eq b 34)) (cases_eq b 92))
     (⊎_elim (λ feed. subst at (sym feed) two) (⊎_elim (λ tab. subst at (sym tab) two) (λ zero. subst at (sym zero) two))) can
 
 complete : (bytes after : List ℕ) (k : ℕ) → All IsWritable bytes → text_end false k (flat_map written bytes ++ (34 ∷ after)) ≡ Some (k + length (flat_map written bytes) + 1)
@@ -132,13 +132,12 @@ text_form c cs n quote found =
     let inside = flat_map written found.bytes in
     let len : length (inside ++ (34 ∷ [])) ≡ n = omega (arith, length-append inside (34 ∷ []), found.len) in
     let whole : cs ≡ inside ++ (34 ∷ []) ++ found.after = found.is ∙ sym (append_assoc inside (34 ∷ []) found.after) in
-    let front : take n cs ≡ inside ++ (34 ∷ []) = ap (λ (m : ℕ). take m cs) (sym len) ∙ ap (take (length (inside ++ (34 ∷ [])))) whole ∙ take-append_seam (inside ++ (34 ∷ [])) found.after in
-    (
+    let front : take n cs ≡ inside ++ (34 ∷ []) = ap (λ (m : ℕ). take m cs) (sym len) ∙ ap (take (length (inside ++ (34 ∷ [])))) whole ∙ take-append_seam (inside ++ (34 ∷ [])) found.after in (
       omega (arith, ap length whole, length-append (inside ++ (34 ∷ [])) found.after),
       (found.bytes, (found.can, λ i. quote i ∷ front i)),
     )
 
-text_longest : (text : List ℕ) (n : ℕ) → slice_index text 0 ≡ 34 → text_end false 0 (drop 1 text) ≡ Some n → IsLongest text Text (n + 1)
+pub text_longest : (text : List ℕ) (n : ℕ) → slice_index text 0 ≡ 34 → text_end false 0 (drop 1 text) ≡ Some n → IsLongest text Text (n + 1)
 text_longest [] n quote e = absurd (omega arith)
 text_longest (c ∷ cs) n quote e =
     let here = text_form c cs n quote (sound false cs 0 n e) in
@@ -151,7 +150,7 @@ text_longest (c ∷ cs) n quote e =
           omega (arith, found.1);
     })
 
-no_text : (text : List ℕ) → slice_index text 0 ≡ 34 → text_end false 0 (drop 1 text) ≡ None → BeginsNone text
+pub no_text : (text : List ℕ) → slice_index text 0 ≡ 34 → text_end false 0 (drop 1 text) ≡ None → BeginsNone text
 no_text text quote e k n token =
     let form = token.lexeme.form in
     let found = texts_end text n token.lexeme.within (subst (λ (k : Kind). IsLexeme k (take n text)) (only_texts text k n quote token.lexeme.within form) form) in
@@ -196,6 +195,6 @@ no_quote text items escaped i passed past = none_at text items escaped i passed 
 pub closed : (text items : List ℕ) (escaped : Bool) (i : ℕ) → IsPassed text items escaped i → escaped ≡ false → i < length items → get_or items i 0 ≡ 34 → IsLongest text Text (i + 2)
 closed text items escaped i passed off below quote =
     let ends : text_end false 0 (drop 1 text) ≡ Some (i + 1) =
-        ap (text_end false 0) (sym passed.items_are) ∙ sym passed.far ∙ ap (λ (b : Bool). text_end b i (drop i items)) off ∙ stop_quote items i below quote in
+    ap (text_end false 0) (sym passed.items_are) ∙ sym passed.far ∙ ap (λ (b : Bool). text_end b i (drop i items)) off ∙ stop_quote items i below quote in
     let two : i + 1 + 1 ≡ i + 2 = omega arith in
     subst (IsLongest text Text) two (text_longest text (i + 1) passed.quote ends)

@@ -1,6 +1,5 @@
 -- The tokens of a line, in order, or the place of the first byte that begins none.
-use Rattle.std.specs.Prelude.{◌≡◌, ◌≢◌, ℕ, ◌+◌, ◌-◌, ◌<◌, ◌≤◌, Bool, ◌||◌, ◌==◌, List, [], ◌∷◌, length, drop, slice_index, IsTrue, Result, Ok, Err, Option, Some, None}
-use Rattle.psx_lex.specs.declared.token.Kind.{Kind}
+use Rattle.std.specs.Prelude.{◌≡◌, ◌≢◌, ℕ, ◌-◌, ◌<◌, ◌≤◌, Bool, ◌||◌, ◌==◌, List, [], ◌∷◌, length, drop, slice_index, IsTrue, Result, Ok, Err}
 use Rattle.psx_lex.specs.declared.token.Token.{Token}
 use Rattle.psx_lex.specs.declared.token.LexError.{LexError}
 use Rattle.psx_lex.specs.declared.token.LexError.TheVariants.{BadToken, Memory}

@@ -1,5 +1,5 @@
 -- The number without a sign that a text begins with.
-use Rattle.std.specs.Prelude.{ℕ, ◌<◌, ◌≤◌, ◌^◌, Bool, ◌||◌, ◌==◌, false, ◌≡◌, List, length, take}
+use Rattle.std.specs.Prelude.{ℕ, ◌<◌, ◌≤◌, ◌^◌, ◌||◌, ◌==◌, false, ◌≡◌, List, length, take}
 use Rattle.psx_lex.specs.Lexeme.{IsMagnitude, is_name_start, is_mark}
 
 -- a text begins with a number without a sign, and with no longer one

@@ -26,7 +26,8 @@ pub fn tokens_or_fault(line: &[u8])
 pub fn tokens(alloc: Global, line: &[u8]) -> Result<Vec<Token>, LexError>
     ensures tokens { IfOk result (λ tokens. IsTokensOf line.now (Ok tokens.items)) }
     ensures fault { IfErr result (λ e. (e ≡ LexError.Memory) ⊎ IsTokensOf line.now (Err e)) }
-    ensures only { (answer : Result (List Token) LexError) → IsTokensOf line.now answer → MatchResult result (λ tokens. answer ≡ Ok tokens.items) (λ e. (e ≡ LexError.Memory) ⊎ (answer ≡ Err e)) }
+    ensures only { (answer : Result (List Token) LexError) → IsTokensOf line.now answer
+        → MatchResult result (λ tokens. answer ≡ Ok tokens.items) (λ e. (e ≡ LexError.Memory) ⊎ (answer ≡ Err e)) }
 {
     let mut tokens = Vec::new(alloc);
     let mut at = 0;

@@ -10,17 +10,21 @@ fn tokens_of_each_kind(rt: HostRuntime) -> Result<(), Fail> {
     let line = b"x: .ascii -0x1F, \"a\\\"#\" 'q'+12ab # \x01";
     let found = tokens(rt.alloc(), line).expect(&rt, "eight tokens");
     let number = |value| Kind::Number { value };
-    assert_eq!(rt; found.as_slice(), [
-        token(Kind::Name, 0, 1),
-        token(Kind::Mark, 1, 2),
-        token(Kind::Directive, 3, 9),
-        token(number(-31), 10, 15),
-        token(Kind::Text, 17, 23),
-        token(number(113), 24, 27),
-        token(Kind::Mark, 27, 28),
-        token(number(12), 28, 30),
-        token(Kind::Name, 30, 32),
-    ].as_slice());
+    assert_eq!(rt;
+        found.as_slice(),
+        [
+            token(Kind::Name, 0, 1),
+            token(Kind::Mark, 1, 2),
+            token(Kind::Directive, 3, 9),
+            token(number(-31), 10, 15),
+            token(Kind::Text, 17, 23),
+            token(number(113), 24, 27),
+            token(Kind::Mark, 27, 28),
+            token(number(12), 28, 30),
+            token(Kind::Name, 30, 32),
+        ]
+        .as_slice()
+    );
     Ok(())
 }
 
@@ -28,7 +32,13 @@ fn tokens_of_each_kind(rt: HostRuntime) -> Result<(), Fail> {
 fn numbers_at_the_ends_of_their_range(rt: HostRuntime) {
     let value = |line: &[u8]| match tokens(rt.alloc(), line) {
         Ok(found) => match found.first() {
-            Some(Token { kind: Kind::Number { value }, from: _, to: _ }) => Some(*value),
+            Some(
+                Token {
+                    kind: Kind::Number { value },
+                    from: _,
+                    to: _,
+                },
+            ) => Some(*value),
             _ => None,
         },
         Err(_) => None,

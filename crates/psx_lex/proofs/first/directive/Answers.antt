@@ -1,4 +1,4 @@
-use Rattle.std.proofs.Common.{◌≡◌, ℕ, suc, ◌+◌, ◌≤◌, sym, subst, ap, ◌∙◌, drop, slice_index, Bool, true, arith}
+use Rattle.std.proofs.Common.{◌≡◌, suc, ◌+◌, sym, subst, ap, ◌∙◌, drop, arith}
 use Rattle.std.specs.List.{prefix_len}
 use Rattle.psx_lex.specs.declared.token.Kind.TheVariants.{Directive}
 use Rattle.psx_lex.specs.Lexeme.{IsLongest, is_name_byte, is_name_start}

@@ -1,4 +1,4 @@
-use Rattle.std.proofs.Common.{◌≤◌, sym, subst, arith}
+use Rattle.std.proofs.Common.{sym, subst, arith}
 use Rattle.psx_lex.specs.declared.token.Kind.TheVariants.{Name}
 use Rattle.psx_lex.specs.Lexeme.{IsLongest}
 use Rattle.psx_lex.proofs.Names.{name_longest}

@@ -1,10 +1,9 @@
-use Rattle.std.proofs.Common.{◌≡◌, ◌≢◌, ◌<◌, ◌≤◌, ◌+◌, ◌^◌, ℕ, suc, ℤ, pos, negsuc, neg_ℤ, ◌-ℤ◌, ◌≤ℤ◌, to_z, of_z, w64, List, drop, slice_index, sym, ap, subst, ◌∙◌, arith}
+use Rattle.std.proofs.Common.{◌≡◌, ◌≤◌, ◌+◌, ℕ, suc, ℤ, pos, neg_ℤ, ◌-ℤ◌, to_z, of_z, w64, List, sym, subst, ◌∙◌, arith}
 use Rattle.std.proofs.lemmas.Int.{ints}
-use Rattle.psx_lex.specs.declared.token.Kind.{Kind}
 use Rattle.psx_lex.specs.declared.token.Kind.TheVariants.{Number}
 use Rattle.psx_lex.specs.Lexeme.{IsLongest, Fits, BeginsToken}
-use Rattle.psx_lex.specs.Magnitude.{IsLongestMagnitude, HasNoMagnitude, BeginsNoOther}
-use Rattle.psx_lex.proofs.Numbers.{plain_longest, no_plain, minus_longest, no_minus}
+use Rattle.psx_lex.specs.Magnitude.{IsLongestMagnitude, HasNoMagnitude}
+use Rattle.psx_lex.proofs.Numbers.{plain_longest, no_plain, minus_longest, no_minus, minus_fits, minus_large}
 use Rattle.psx_lex.proofs.OneKind.{none_fits}
 use Rattle.psx_lex.proofs.first.number.Goals as goal
 
@@ -14,12 +13,6 @@ minus_value v small = omega (arith, ints)
 
 plain_value : (v : ℕ) → v ≤ 4294967295 → pos v ≡ to_z w64 v
 plain_value v small = omega (arith, ints)
-
-minus_fits : (v : ℕ) → v ≤ 2147483648 → (negsuc 2147483647 ≤ℤ neg_ℤ (pos v)) × (neg_ℤ (pos v) ≤ℤ pos 4294967295)
-minus_fits v small = (omega (arith, ints), omega (arith, ints))
-
-minus_large : (v : ℕ) → 2147483648 < v → negsuc 2147483647 ≤ℤ neg_ℤ (pos v) → ⊥
-minus_large v large fits = absurd (omega (arith, ints))
 
 token : (text : List ℕ) (z w : ℤ) (m n : ℕ) → z ≡ w → m ≡ n → IsLongest text (Number z) m → Fits (Number z) m → BeginsToken text (Number w) n
 token text z w m n value len longest fits =

@@ -1,5 +1,4 @@
-use Rattle.std.proofs.Common.{◌≡◌, ◌<◌, ◌≤◌, ℕ, true, false, sym, ap, ◌∙◌, length, slice_index, arith}
-use Rattle.psx_lex.specs.Lexeme.{is_escape}
+use Rattle.std.proofs.Common.{sym, ◌∙◌, arith}
 use Rattle.psx_lex.proofs.Texts.{bad_escape, low_byte, no_quote, closed}
 use Rattle.psx_lex.proofs.first.quoted.Goals as goal
 

@@ -1,4 +1,4 @@
-use Rattle.std.proofs.Common.{◌≡◌, ◌≤◌, ◌<◌, ℕ, slice_index, sym, subst, ◌∙◌, arith}
+use Rattle.std.proofs.Common.{◌≡◌, slice_index, sym, subst, ◌∙◌, arith}
 use Rattle.psx_lex.specs.Magnitude.{IsLongestMagnitude}
 use Rattle.psx_lex.proofs.Magnitudes.{quoted_longest, not_quoted}
 use Rattle.psx_lex.proofs.number.quoted.Goals as goal
