@@ -1,0 +1,11 @@
+pub mod Starts
+pub mod Prefixes
+pub mod Names
+pub mod OneKind
+pub mod Texts
+pub mod Magnitudes
+pub mod Numbers
+pub mod Marks
+pub mod Lines
+pub mod EachText
+pub mod EachLine
