@@ -8,6 +8,7 @@ use Rattle.psx_sched.specs.Schedule.{IsOrdered, IsPlausible}
 use Rattle.psx_ports.specs.History.{History}
 use Rattle.psx_ports.specs.Stands.{StandsFor}
 use Rattle.psx_ports.specs.Stands as Ports
+use Rattle.psx_board.specs.Devices.{NotBefore}
 use Rattle.psx_board.specs.Delivery.{due, later, arrived, all_arrived}
 
 -- the entries from an index on are still to be delivered to these ports
@@ -70,3 +71,8 @@ taken_whole n xs = take_all (length xs - n) (drop n xs) (let e = length-drop n x
 pub plausible : (least : ℕ) (entries : List Entry) → IsOrdered least entries → All IsPlausible entries
 plausible least [] o = All-nil IsPlausible
 plausible least (e ∷ es) o = All-cons IsPlausible e es o.1 (plausible e.count es o.2)
+
+-- before the first count of the entries none is due
+pub none-due : (count next : ℕ) (es : List Entry) → NotBefore next es → count < next → (due count es ≡ []) × (later count es ≡ es)
+none-due count next [] first early = (refl, refl)
+none-due count next (e ∷ es) first early = (due-none e es count (omega (arith, first, early)), later-all e es count (omega (arith, first, early)))

@@ -1,5 +1,5 @@
 -- Ports that lag behind the count show the line of the count.
-use Rattle.std.proofs.Common.{◌≡◌, ◌⊎◌, ℕ, ◌<◌, List, sym, ap, subst, inl, inr, arith}
+use Rattle.std.proofs.Common.{◌≡◌, ◌≢◌, ◌⊎◌, ℕ, zero, suc, ◌+◌, ◌-◌, ◌^◌, ◌<◌, ◌≤◌, List, refl, sym, ap, subst, inl, inr, arith}
 use Rattle.psx_sched.specs.declared.schedule.Entry.{Entry}
 use Rattle.psx_ports.specs.History.{History, at_count, line}
 use Rattle.psx_ports.specs.Stands.{StandsFor}
@@ -30,3 +30,19 @@ carried d h rest s c w = record {
   counted = c;
   waiting = w;
 }
+
+-- ports before whose deadline a step is counted
+pub carries_on : (d : Kept) (h : History) (rest : List Entry) (count : ℕ) → Carries d h rest → count ≡ h.now + 1 → count < d.ports.deadline → Carries (record d { count = count }) (at_count h (h.now + 1)) rest
+carries_on d h rest count c is early = record {
+  ports = c.ports;
+  past = omega (arith, c.past);
+  quiet = inl (omega (arith, is, early));
+  counted = is;
+  waiting = c.waiting;
+}
+
+-- a count that isn't the last, before a next count that isn't the coming one
+pub counts_on : (next left count : ℕ) → count ≡ next - left → left ≤ next → (left ≡ 0 → next ≡ 2 ^ 64 - 1) → count < 2 ^ 64 - 1 → left ≢ 1 → 1 < left
+counts_on next zero count is within last small other = absurd (omega (arith, is, last refl, small))
+counts_on next (suc zero) count is within last small other = absurd (other refl)
+counts_on next (suc (suc left)) count is within last small other = omega arith

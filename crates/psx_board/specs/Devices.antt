@@ -1,5 +1,5 @@
 -- The devices as the board keeps them: the ports, which may lag behind the count while nothing happens, and the rest of the schedule.
-use Rattle.std.specs.Prelude.{◌≡◌, ◌⊎◌, ℕ, ◌+◌, ◌<◌, ◌≤◌, List, [], ◌∷◌, length}
+use Rattle.std.specs.Prelude.{◌≡◌, ◌⊎◌, ℕ, ◌+◌, ◌-◌, ◌^◌, ◌<◌, ◌≤◌, List, [], ◌∷◌, length}
 use Rattle.psx_sched.specs.declared.schedule.Entry.{Entry}
 use Rattle.psx_ports.specs.History.{History, at_count}
 use Rattle.psx_ports.specs.Stands.{StandsFor}
@@ -24,9 +24,12 @@ abbrev pub NotBefore : ℕ → List Entry → Type 0
 NotBefore next [] = Unit {0}
 NotBefore next (e ∷ es) = next ≤ e.count
 
--- nothing happens before the next count, and there is room in the console's queue for each byte to come
-pub record IsPlanned (d : Kept) (next : ℕ) : Type 0 where
+-- So many steps are left to the next count, none at the last count alone. Before it nothing happens, unless it is the coming one;
+-- and there is room in the console's queue for each byte to come.
+pub record IsPlanned (d : Kept) (next left : ℕ) : Type 0 where
+  pub within : left ≤ next
+  pub last : left ≡ 0 → next ≡ 2 ^ 64 - 1
   pub past : d.ports.now ≤ d.count
-  pub deadline : next ≤ d.ports.deadline
-  pub entries : NotBefore next d.waiting
+  pub deadline : 1 < left → next ≤ d.ports.deadline
+  pub entries : 1 < left → NotBefore next d.waiting
   pub room : length d.ports.console + length d.waiting ≤ 65536

@@ -51,7 +51,7 @@ impl Model for Board {
 
     ghost view = { λ b. record { core = core_of b.cpu b.ram; devices = b.devices; taken = b.devices.count; stopped = b.stopped } };
 
-    // No step has been finished before the first exception is left.
+    // Where no step is finished nothing has stopped.
     ghost invariant = { λ b. IsSound (record { core = core_of b.cpu b.ram; devices = b.devices; taken = b.devices.count; stopped = b.stopped }) };
 }
 
@@ -156,6 +156,7 @@ fn finish(devices: &mut Devices, did: Did) -> Did
     requires port { IsPortDid did }
     ensures ended { (h : History.History) (waiting : List Entry) → Carries devices.old h waiting → Finished h waiting did result devices.new }
     ensures counted { devices.new.count ≡ devices.old.count + finished did }
+    ensures went { WentOn result → finished did ≡ 1 }
 {
     match did {
         Did::PortWrite { at, value } => finish_write(devices, at, value),
@@ -167,18 +168,19 @@ fn finish(devices: &mut Devices, did: Did) -> Did
     }
 }
 
-// The stop that a step told.
+// Keeps the stop that a step told.
 #[inline]
-fn stop_of(did: Did) -> Option<Stop>
-    ensures { result ≡ stop_of did }
+fn keep(stopped: &mut Option<Stop>, did: Did)
+    requires { stopped.old ≡ None }
+    ensures { stopped.new ≡ stop_of did }
 {
     match did {
-        Did::Stopped(stop) => Some(stop),
-        Did::Plain => None,
-        Did::PortRead { .. } => None,
-        Did::PortWrite { .. } => None,
-        Did::Entered { .. } => None,
-        Did::Left => None,
+        Did::Stopped(stop) => *stopped = Some(stop),
+        Did::Plain => {}
+        Did::PortRead { .. } => {}
+        Did::PortWrite { .. } => {}
+        Did::Entered { .. } => {}
+        Did::Left => {}
     }
 }
 
@@ -266,13 +268,14 @@ impl Board {
         ensures turns { (m : Machine) → Stands self.old m → Turned m (turn m) result self.new }
         ensures after { (calls : ℕ) (m : Machine) → StandsAfter self.old calls m → StandsAfter self.new (calls + 1) m }
         ensures counted { self.new.taken ≤ self.old.taken + 1 }
+        ensures went { WentOn result → self.new.taken ≡ self.old.taken + 1 }
         ensures runs_on { WentOn result → self.new.stopped ≡ None }
     {
         let line = self.devices.line();
         let value = ask(&self.cpu, &self.ram, &mut self.devices, line);
         let did = self.cpu.step(&mut self.ram, BusAnswer { line, value });
         let did = finish(&mut self.devices, did);
-        self.stopped = stop_of(did);
+        keep(&mut self.stopped, did);
         did
     }
 }

@@ -20,20 +20,21 @@ pub(crate) struct Devices {
     schedule: Schedule,
     // how many entries were delivered
     place: usize,
-    count: u64,
-    // no entry is due and no line changes before this count
+    // no entry is due and no line changes before this count, unless it is the coming one
     next: u64,
+    // how many steps are left to it
+    left: u64,
 }
 
 impl Model for Devices {
-    ghost use Rattle.std.specs.Prelude.{drop, ◌≤◌, length};
+    ghost use Rattle.std.specs.Prelude.{drop, ◌-◌, ◌≤◌, length};
     ghost use Rattle.psx_board.specs.Devices.{Kept, IsPlanned};
 
     ghost Value = { Kept };
 
-    ghost view = { λ d. record { ports = d.ports; waiting = drop d.place d.schedule; count = d.count } };
+    ghost view = { λ d. record { ports = d.ports; waiting = drop d.place d.schedule; count = d.next - d.left } };
 
-    ghost invariant = { λ d. (d.place ≤ length d.schedule) × IsPlanned (record { ports = d.ports; waiting = drop d.place d.schedule; count = d.count }) d.next };
+    ghost invariant = { λ d. (d.place ≤ length d.schedule) × IsPlanned (record { ports = d.ports; waiting = drop d.place d.schedule; count = d.next - d.left }) d.next d.left };
 }
 
 // Gives a byte to the console, or raises a line.
@@ -81,6 +82,15 @@ fn first_count(entries: &[Entry]) -> u64
     }
 }
 
+// The next count to look at behind this one: this one at the earliest, where it isn't the last.
+fn planned(count: u64, next: u64) -> u64
+    ensures least { count ≤ result }
+    ensures later { count < 2 ^ 64 - 1 → count < result }
+    ensures same { count + 1 < result → result ≡ next }
+{
+    next.max(count.saturating_add(1))
+}
+
 impl Devices {
     /// The devices at reset, before any step, with the entries of count 0 delivered.
     pub(crate) fn new(ports: Ports, schedule: Schedule) -> Devices
@@ -93,10 +103,10 @@ impl Devices {
             ports,
             schedule,
             place: 0,
-            count: 0,
-            next: 0,
+            next: 1,
+            left: 1,
         };
-        devices.arrive();
+        devices.arrive(0);
         devices
     }
 
@@ -105,7 +115,7 @@ impl Devices {
     pub(crate) fn count(&self) -> u64
         ensures { result ≡ self.now.count }
     {
-        self.count
+        self.next - self.left
     }
 
     /// Whether a line that isn't masked is pending.
@@ -123,9 +133,11 @@ impl Devices {
         ensures carries { (h : History) (waiting : List Entry) → Carries self.old h waiting → Carries self.new (then_event h (Read h.now at)) waiting }
         ensures counted { self.new.count ≡ self.old.count }
     {
-        self.ports.tick(self.count);
+        let count = self.next - self.left;
+        self.ports.tick(count);
         let value = self.ports.read(at);
-        self.next = self.next.min(self.ports.deadline());
+        self.next = planned(count, self.next.min(self.ports.deadline()));
+        self.left = self.next - count;
         value
     }
 
@@ -136,9 +148,11 @@ impl Devices {
         ensures carries { (h : History) (waiting : List Entry) → Carries self.old h waiting → Carries self.new (then_event h (Write h.now at value)) waiting }
         ensures counted { self.new.count ≡ self.old.count }
     {
-        self.ports.tick(self.count);
+        let count = self.next - self.left;
+        self.ports.tick(count);
         let did = self.ports.write(at, value);
-        self.next = self.next.min(self.ports.deadline());
+        self.next = planned(count, self.next.min(self.ports.deadline()));
+        self.left = self.next - count;
         did
     }
 
@@ -150,22 +164,27 @@ impl Devices {
             Carries self.new (all_arrived (at_count h (h.now + 1)) (due (h.now + 1) waiting)) (later (h.now + 1) waiting) }
         ensures counted { self.new.count ≡ self.old.count + 1 }
     {
-        self.count += 1;
-        if self.next <= self.count {
-            self.arrive();
+        if self.left == 1 {
+            let next = self.next;
+            self.arrive(next);
+        } else {
+            self.left -= 1;
         }
     }
 
-    // Makes the turns of the count, delivers its entries, and plans the next count at which anything happens.
-    fn arrive(&mut self)
-        ensures carries { (h : History) (waiting : List Entry) → StandsFor self.old.ports (at_count h self.old.ports.now) → self.old.ports.now ≤ h.now → self.old.count ≡ h.now → self.old.waiting ≡ waiting →
+    // Makes the turns of a count, delivers its entries, and plans the next count at which anything happens.
+    fn arrive(&mut self, count: u64)
+        requires { self.old.ports.now ≤ count }
+        ensures carries { (h : History) (waiting : List Entry) → StandsFor self.old.ports (at_count h self.old.ports.now) → count ≡ h.now → self.old.waiting ≡ waiting →
             Carries self.new (all_arrived h (due h.now waiting)) (later h.now waiting) }
-        ensures counted { self.new.count ≡ self.old.count }
+        ensures counted { self.new.count ≡ count }
     {
-        self.ports.tick(self.count);
+        self.ports.tick(count);
         let waiting = &self.schedule.entries()[self.place..];
-        let number = deliver(&mut self.ports, waiting, self.count);
+        let number = deliver(&mut self.ports, waiting, count);
         self.place += number;
-        self.next = first_count(&waiting[number..]).min(self.ports.deadline());
+        let next = first_count(&waiting[number..]).min(self.ports.deadline());
+        self.next = planned(count, next);
+        self.left = self.next - count;
     }
 }

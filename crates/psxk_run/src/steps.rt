@@ -31,19 +31,19 @@ pub(crate) fn steps<H: Host>(
     ensures failed { OnErr result (Rose (H.send_faults host.old) (H.send_faults host.new)) }
     ensures on { GoesOn H.holds H.load_faults H.send_faults host.old host.new }
 {
-    let mut count = board.taken();
+    let first = board.taken();
     for turn in 0..budget {
         let line = board.line();
         let did = board.step();
         match did {
             Did::Stopped(stop) => return Ok(stop),
             _ => {
+                let count = first + turn as u64;
                 if let Err(error) = lines.tell(host, count, line, did, board.cpu()) {
                     return Err(error);
                 }
             }
         }
-        count = board.taken();
     }
     Ok(Stop::Budget)
 }

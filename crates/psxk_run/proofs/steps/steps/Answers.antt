@@ -1,4 +1,4 @@
-use Rattle.std.proofs.Common.{◌≡◌, ◌∙◌, ◌+◌, ◌-◌, false, arith, subst}
+use Rattle.std.proofs.Common.{◌≡◌, ◌∙◌, sym, ◌+◌, ◌-◌, false, arith, subst}
 use Rattle.psx_cpu.specs.Processor.{Core, Processor}
 use Rattle.psx_cpu.specs.Views.{core_of}
 use Rattle.psx_board.specs.Run.{run}
@@ -14,9 +14,9 @@ loop-turn-init g c =
     record {
       reached = λ m s e. rw (all, c.requires.tty, c.requires.trace, c.requires.began) (reached-start c.args.budget c.args.board.now m (g.H.Host.sent c.args.host.now) false s e);
       made = λ m s. made-start m c.args.board.now s;
-      running = c.taken-count.ensures.fresh (c.taken-count.ensures.count ∙ c.requires.fresh);
-      count = c.taken-count.ensures.count;
-      taken = omega (arith, c.requires.fresh);
+      running = c.taken-first.ensures.fresh (c.taken-first.ensures.count ∙ c.requires.fresh);
+      first = c.taken-first.ensures.count ∙ c.requires.fresh;
+      taken = omega (arith, c.requires.fresh, c.taken-first.ensures.count);
       on = goes_on-same g.H.Host.holds g.H.Host.load_faults g.H.Host.send_faults c.args.host.now;
     }
 
@@ -56,14 +56,14 @@ loop-turn-preserved g c =
       reached = λ m s e.
           let r = inv.reached m s e in
           let Told : Core → Type 0 = λ k. Tells (g.H.Host.sent c.loop-turn.host) (g.H.Host.sent c.tell.new.host) c.loop-turn.lines.tty.items c.loop-turn.lines.trace.items
-          (console_bytes c.step-did.result) (told_items c.loop-turn.lines.began c.line-line.result c.loop-turn.count c.step-did.result k) c.tell.new.self.tty.items c.tell.new.self.trace.items in
+          (console_bytes c.step-did.result) (told_items c.loop-turn.lines.began c.line-line.result (c.taken-first.result + c.loop-turn.turn) c.step-did.result k) c.tell.new.self.tty.items c.tell.new.self.trace.items in
           let told : Told new.core = subst (λ (p : Processor). Told (core_of p new.core.bytes)) c.cpu.ensures (c.in_default-tell.ensures.tells new.core.bytes) in
-          rw c.in_default-tell.ensures.began (reached-on (run c.args.budget m) c.args.budget c.loop-turn.turn c.loop-turn.board new c.step-did.result c.loop-turn.lines.began c.line-line.result c.loop-turn.count
+          rw c.in_default-tell.ensures.began (reached-on (run c.args.budget m) c.args.budget c.loop-turn.turn c.loop-turn.board new c.step-did.result c.loop-turn.lines.began c.line-line.result (c.taken-first.result + c.loop-turn.turn)
           (g.H.Host.sent c.args.host.now) (g.H.Host.sent c.loop-turn.host) (g.H.Host.sent c.tell.new.host) c.loop-turn.lines.tty.items c.loop-turn.lines.trace.items c.tell.new.self.tty.items c.tell.new.self.trace.items
-          c.loop-turn-test.true r (c.step-did.ensures.turns r.machine r.stands) went (c.line-line.ensures r.machine r.stands) inv.count told);
+          c.loop-turn-test.true r (c.step-did.ensures.turns r.machine r.stands) went (c.line-line.ensures r.machine r.stands) (sym inv.taken) told);
       made = λ m s. let d = inv.made m s in made-on m c.loop-turn.turn c.loop-turn.board new c.step-did.result d (c.step-did.ensures.turns d.machine d.stands) went;
       running = c.step-did.ensures.runs_on went;
-      count = c.taken-count-in-loop-turn.ensures.count;
-      taken = omega (arith, c.step-did.ensures.counted, inv.taken);
+      first = inv.first;
+      taken = omega (arith, c.step-did.ensures.went went, inv.taken);
       on = goes_on-then g.H.Host.holds g.H.Host.load_faults g.H.Host.send_faults c.args.host.now c.loop-turn.host c.tell.new.host inv.on c.tell.ensures.on;
     }

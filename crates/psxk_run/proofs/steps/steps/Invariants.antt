@@ -1,4 +1,4 @@
-use Rattle.std.proofs.Common.{◌≡◌, ◌-◌, ◌≤◌, None, false}
+use Rattle.std.proofs.Common.{◌≡◌, ◌+◌, ◌-◌, None, false}
 use Rattle.psx_board.specs.Machine.{Machine}
 use Rattle.psx_board.specs.Run.{run}
 use Rattle.psx_board.specs.Stands.{Stands}
@@ -13,7 +13,7 @@ invariant-loop-turn g l = record {
       Reached (run l.fn.budget m) (l.budget - l.turn) l.board l.lines.began (g.H.Host.sent l.fn.host) (g.H.Host.sent l.host) l.lines.tty.items l.lines.trace.items;
   made : (m : Machine) → Stands l.fn.board m → Made m l.turn l.board;
   running : l.board.stopped ≡ None;
-  count : l.count ≡ l.board.taken;
-  taken : l.board.taken ≤ l.turn;
+  first : l.first ≡ 0;
+  taken : l.board.taken ≡ l.first + l.turn;
   on : GoesOn g.H.Host.holds g.H.Host.load_faults g.H.Host.send_faults l.fn.host l.host;
 }

@@ -1,4 +1,4 @@
-use Rattle.std.proofs.Common.{ℕ, ◌+◌, ap, refl, ◌∙◌}
+use Rattle.std.proofs.Common.{◌≡◌, ℕ, ◌+◌, sym, ap, refl, ◌∙◌, arith}
 use Rattle.psx_cpu.specs.Views.{core_of}
 use Rattle.psx_board.specs.Delivery.{delivered}
 use Rattle.psx_board.specs.Turn.{asked, answered}
@@ -10,8 +10,8 @@ use Rattle.psx_board.proofs.Steps.{one_more_step}
 use Rattle.psx_board.proofs.board.Board.step.Goals as goal
 
 -- the view of what the step left
-abbrev view : goal.After-self-1 → View
-view c = record { core = core_of c.step-did.new.self c.step-did.new.ram; devices = c.finish-did.new.devices; taken = c.finish-did.new.devices.count; stopped = c.stop_of-self-inside.result }
+abbrev view : goal.After-keep → View
+view c = record { core = core_of c.step-did.new.self c.step-did.new.ram; devices = c.finish-did.new.devices; taken = c.finish-did.new.devices.count; stopped = c.keep.new.stopped }
 
 pub returns-clause-turns : goal.returns-clause-turns
 returns-clause-turns c m s =
@@ -20,7 +20,7 @@ returns-clause-turns c m s =
     let l = c.line-line.ensures d.history d.waiting now.devices in
     let f = c.finish-did.ensures.ended _ d.waiting (c.ask-value.ensures.carries d now.core l now.devices) in
     turned-step m (view c) _ c.line-line.result c.ask-value.result c.step-did.result c.finish-did.result now.core l (c.ask-value.ensures.value d now.core l now.devices) c.step-did.ensures.does
-    (c.ask-value.ensures.same d (answered d.history (asked d)) now.core l) f refl c.stop_of-self-inside.ensures
+    (c.ask-value.ensures.same d (answered d.history (asked d)) now.core l) f refl c.keep.ensures
 
 pub returns-clause-after : goal.returns-clause-after
 returns-clause-after c calls m a = one_more_step calls m c.args.self.now (view c) c.finish-did.result a c.requires.running (returns-clause-turns c)
@@ -29,3 +29,8 @@ pub invariant_of-self : goal.invariant_of-self
 invariant_of-self c none =
     absurd (step-counts (core_of c.self.inside.cpu c.self.inside.ram) _ c.step-did.result (core_of c.step-did.new.self c.step-did.new.ram) c.self.inside.devices.count c.finish-did.new.devices.count
     (λ fresh. (c.self.invariant fresh).latch) c.step-did.ensures.does (c.finish-did.ensures.counted ∙ ap (λ (n : ℕ). n + finished c.step-did.result) c.ask-value.ensures.counted) none)
+
+pub returns-clause-went : goal.returns-clause-went
+returns-clause-went c went =
+    let old : c.args.self.now.taken ≡ c.self.inside.devices.count = ap (λ (b : View). b.taken) (sym c.self.view_is) in
+    omega (arith, old, c.finish-did.ensures.counted, c.finish-did.ensures.went went, c.ask-value.ensures.counted)

@@ -1,4 +1,4 @@
-use Rattle.std.proofs.Common.{◌≡◌, ℕ, ◌-◌, List, take, drop, length, sym, ap, subst, ◌∙◌}
+use Rattle.std.proofs.Common.{◌≡◌, ℕ, ◌-◌, List, take, drop, length, sym, ap, subst, ◌∙◌, arith}
 use Rattle.std.proofs.lemmas.List.{drop-drop}
 use Rattle.std.proofs.lemmas.List.Elements.{All-drop, All-take}
 use Rattle.psx_sched.specs.Schedule.{IsPlausible}
@@ -14,17 +14,18 @@ pub deliver-number-requires-clause-plausible : goal.deliver-number-requires-clau
 deliver-number-requires-clause-plausible c = All-take IsPlausible _ _ (All-drop IsPlausible c.self.inside.place c.entries.result.now (rw c.entries.ensures.list (plausible 0 _ c.entries.ensures.schedule.ordered)))
 
 pub returns-clause-carries : goal.returns-clause-carries
-returns-clause-carries c h rest stands past counted waiting =
+returns-clause-carries c h rest stands at waiting =
     let all = c.entries.result.now in
     let place = c.self.inside.place in
     let slice : List Entry = take (length all - place) (drop place all) in
     let number = c.deliver-number.result in
-    let at : c.self.inside.count ≡ h.now = rw (← c.self.view_is) at counted in
+    let count = c.args.count in
     let left : drop place c.self.inside.schedule ≡ rest = rw (← c.self.view_is) at waiting in
     let whole : slice ≡ rest = taken_whole place all ∙ ap (drop place) c.entries.ensures.list ∙ left in
-    let now = ticked_to c.self.inside.ports h c.self.inside.count c.tick.new.self (rw (← c.self.view_is) at stands) at c.tick.ensures.stands in
+    let now = ticked_to c.self.inside.ports h count c.tick.new.self (rw (← c.self.view_is) at stands) at c.tick.ensures.stands in
     let Is : ℕ → List Entry → Type 0 = λ n es. StandsFor c.deliver-number.new.ports (all_arrived h (due n es)) in
+    let counted : c.planned-self-inside.result - (c.planned-self-inside.result - count) ≡ h.now = omega (arith, at, c.planned-self-inside.ensures.least) in
     carried _ (all_arrived h (due h.now rest)) (later h.now rest)
-    (subst (λ (n : ℕ). Is n rest) at (subst (λ (es : List Entry). Is c.self.inside.count es) whole (c.deliver-number.ensures.arrived h now)))
-    (at ∙ sym (all_arrived-now h (due h.now rest)))
-    (sym (drop-drop number place c.self.inside.schedule) ∙ ap (drop number) (left ∙ sym whole) ∙ c.deliver-number.ensures.later ∙ ap (later c.self.inside.count) whole ∙ ap (λ (n : ℕ). later n rest) at)
+    (subst (λ (n : ℕ). Is n rest) at (subst (λ (es : List Entry). Is count es) whole (c.deliver-number.ensures.arrived h now)))
+    (counted ∙ sym (all_arrived-now h (due h.now rest)))
+    (sym (drop-drop number place c.self.inside.schedule) ∙ ap (drop number) (left ∙ sym whole) ∙ c.deliver-number.ensures.later ∙ ap (later count) whole ∙ ap (λ (n : ℕ). later n rest) at)

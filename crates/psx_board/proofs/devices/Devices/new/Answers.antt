@@ -1,4 +1,4 @@
-use Rattle.std.proofs.Common.{◌≡◌, ℕ, refl, sym, subst, ◌∙◌, arith}
+use Rattle.std.proofs.Common.{◌≡◌, ℕ, refl, sym, subst, ◌∙◌}
 use Rattle.psx_ports.specs.History.{at_count}
 use Rattle.psx_ports.specs.Stands.{StandsFor}
 use Rattle.psx_board.specs.Delivery.{due, later, all_arrived}
@@ -9,4 +9,4 @@ pub returns-clause-carries : goal.returns-clause-carries
 returns-clause-carries c h s =
     let none : h.now ≡ 0 = sym s.now ∙ c.requires.fresh in
     let At : ℕ → Type 0 = λ n. Carries c.arrive.new.self (all_arrived h (due n c.args.schedule)) (later n c.args.schedule) in
-    subst At none (c.arrive.ensures.carries h c.args.schedule (subst (λ (n : ℕ). StandsFor c.args.ports (at_count h n)) (sym s.now) s) (omega (arith, s.now)) (sym none) refl)
+    subst At none (c.arrive.ensures.carries h c.args.schedule (subst (λ (n : ℕ). StandsFor c.args.ports (at_count h n)) (sym s.now) s) (sym none) refl)

@@ -1,3 +1,4 @@
+use Rattle.std.proofs.Common.{◌≡◌, ◌-◌, arith}
 use Rattle.psx_board.proofs.Lagging.{ticked, carried}
 use Rattle.psx_board.proofs.devices.Devices.read.Goals as goal
 
@@ -9,4 +10,6 @@ returns-clause-value c h rest carries =
 pub returns-clause-carries : goal.returns-clause-carries
 returns-clause-carries c h rest carries =
     let now = rw (← c.self.view_is) at carries in
-    carried _ _ rest (c.read-value.ensures.stands h (ticked _ h rest c.tick.new.self now c.tick.ensures.stands)) now.counted now.waiting
+    let count = c.self.inside.next - c.self.inside.left in
+    let counted : c.planned-self-inside.result - (c.planned-self-inside.result - count) ≡ h.now = omega (arith, now.counted, c.planned-self-inside.ensures.least) in
+    carried _ _ rest (c.read-value.ensures.stands h (ticked _ h rest c.tick.new.self now c.tick.ensures.stands)) counted now.waiting
