@@ -45,6 +45,11 @@ pub(crate) fn read_word(ram: &Ram, at: u32) -> u32
     requires { at % 4 ≡ 0 }
     ensures { result ≡ DataAccess.read_word ram.now at }
 {
+    // Most words are read from main memory in the cached segment.
+    let low = at.wrapping_sub(0x8000_0000);
+    if low < 0x20_0000 {
+        return ram.word(low);
+    }
     let to = place(at);
     if is_there(to, 4) { ram.word(to) } else { 0 }
 }

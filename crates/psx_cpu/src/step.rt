@@ -1,5 +1,5 @@
 //! One step of the processor.
-ghost use Rattle.std.specs.Prelude.{◌≡◌, ◌||◌, is_some};
+ghost use Rattle.std.specs.Prelude.{◌≡◌, ◌||◌, is_some, IsTrue, true};
 ghost use Rattle.psx_base.specs.Addresses.{user, gate_of};
 ghost use Rattle.psx_cpu.specs.Traps;
 ghost use Rattle.psx_cpu.specs.Views.{core_of};
@@ -60,6 +60,15 @@ fn reserved_code(word: u32) -> u32
     }
 }
 
+// Whether an address is user memory in the cached segment, as that of most code.
+#[tactic(auto, unfolding(psx_base::specs::Addresses::user))]
+#[inline]
+fn is_near(at: u32) -> bool
+    ensures { IsTrue result → user at ≡ true }
+{
+    at >= 0x8001_0000 && at < 0x8020_0000
+}
+
 impl Cpu {
     // Whether the coming instruction may be fetched.
     #[inline]
@@ -67,7 +76,7 @@ impl Cpu {
         ensures { result ≡ (self.now.latch || (user self.now.context.pc || is_some (gate_of self.now.context.pc))) }
     {
         let pc = Addr(self.pc());
-        self.latch() || pc.is_user() || pc.gate().is_some()
+        self.latch() || is_near(self.pc()) || pc.is_user() || pc.gate().is_some()
     }
 
     /// One step: an interrupt is taken, or the instruction at pc has its effect, raises an exception or is stopped by the guard.
