@@ -1,1 +1,8 @@
 pub mod Ordered
+pub mod Digits
+pub mod LineNumber
+pub mod EntryReading
+pub mod SameEntries
+pub mod OneAnswer
+pub mod EachText
+pub mod LineLength

@@ -1,5 +1,5 @@
 -- A schedule that grows, and what is known of its entries.
-use Rattle.std.proofs.Common.{◌≡◌, ℕ, zero, suc, ◌≤◌, ◌<◌, Bool, true, false, List, [], ◌∷◌, ◌++◌, length, get_or, subst, sym, arith, length-append}
+use Rattle.std.proofs.Common.{◌≡◌, ℕ, zero, suc, ◌≤◌, ◌<◌, Bool, true, false, List, [], ◌∷◌, ◌++◌, length, get_or, refl, subst, sym, arith, length-append}
 use Rattle.std.specs.Prelude.{if◌then◌else◌}
 use Rattle.psx_sched.specs.declared.schedule.Entry.{Entry}
 use Rattle.psx_sched.specs.Schedule.{IsPlausible, IsOrdered, IsSchedule, last_count}
@@ -8,6 +8,11 @@ use Rattle.psx_sched.specs.Schedule.{IsPlausible, IsOrdered, IsSchedule, last_co
 pub IsOrdered-push : (least : ℕ) (xs : List Entry) (e : Entry) → IsOrdered least xs → last_count least xs ≤ e.count → IsPlausible e → IsOrdered least (xs ++ e ∷ [])
 IsOrdered-push least [] e o l p = (l, p, tt)
 IsOrdered-push least (x ∷ xs) e o l p = (o.0, o.1, IsOrdered-push x.count xs e o.2 l p)
+
+-- its count is then the last one
+pub last_count-push : (least : ℕ) (xs : List Entry) (e : Entry) → last_count least (xs ++ e ∷ []) ≡ e.count
+last_count-push least [] e = refl
+last_count-push least (x ∷ xs) e = last_count-push x.count xs e
 
 pub IsSchedule-push : (xs : List Entry) (e : Entry) → IsSchedule xs → length xs < 65536 → last_count 0 xs ≤ e.count → IsPlausible e → IsSchedule (xs ++ e ∷ [])
 IsSchedule-push xs e s room l p = record {

@@ -1,1 +1,3 @@
 pub mod Schedule
+pub mod Line
+pub mod Accepted
