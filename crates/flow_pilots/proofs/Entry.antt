@@ -1,19 +1,13 @@
 -- The entry is changed, by the rules of Kit.
-use Rattle.psx_flow.proofs.Kit.{◌≡◌, ℕ, ◌+◌, ◌-◌, ◌*◌, ◌%◌, ◌^◌, ◌<◌, ◌≤◌, [], false, refl, arith, ⊎_elim, place, Run, Meets, calls, Tree, Stop, Do, When, Go, kernel_words, fair, start, word_sort, Kernel}
-use Rattle.std.specs.Prelude.{nat_lt}
+use Rattle.psx_flow.proofs.Kit.{◌≡◌, ℕ, ◌+◌, ◌-◌, ◌*◌, ◌%◌, ◌^◌, ◌<◌, ◌≤◌, [], false, refl, arith, ⊎_elim, place, Run, Meets, calls, Tree, Stop, kernel_words, fair, start, word_sort, Kernel}
+use Rattle.std.specs.Prelude.{nat_lt, unwrap_or}
 use Rattle.std.proofs.lemmas.Bool.{cases_lt, lt-ltb}
-use Rattle.psx_ins.specs.declared.ins.Ins.TheVariants.{SLL, SUBU, OR, ADDU, SLTIU, ORI, LUI, LW, SW}
-use Rattle.psx_flow.specs.declared.node.Test.TheVariants.{Same}
+use Rattle.flow_pilots.specs.declared.table.TheConstants.{NODES}
+use Rattle.psx_flow.specs.Reading.{tree_of}
 use Rattle.flow_pilots.specs.Table.{Changes}
-use Rattle.flow_pilots.proofs.TextLength.{r}
 
 abbrev pub disable_tree : Tree
-disable_tree =
-    Do (SLTIU (r 4) (r 8) 64)
-    (When (Same (r 8) (r 0)) (Do (OR (r 0) (r 0) (r 2)) (Go 0x1E00 Stop))
-    (Do (SLL (r 4) (r 8) 5) (Do (SLL (r 4) (r 9) 2) (Do (SUBU (r 8) (r 9) (r 8)) (Do (LUI (r 9) 0x8001) (Do (ADDU (r 8) (r 9) (r 8))
-    (Do (LW (r 8) (r 2) 0xBC04) (Do (ORI (r 0) (r 9) 0x1000) (Do (SW (r 8) (r 9) 0xBC04)
-    (Go 0x1E00 Stop))))))))))
+disable_tree = unwrap_or (tree_of NODES) Stop
 
 -- the address of an entry's word, its sort and its place
 address : (n : ℕ) → n < 64 → (((n * 2 ^ 5 % 2 ^ 32 + 2 ^ 32 - n * 2 ^ 2 % 2 ^ 32) % 2 ^ 32 + 0x80010000) % 2 ^ 32 + 0xFFFFBC04) % 2 ^ 32 ≡ 0x8000BC04 + 28 * n

@@ -1,8 +1,11 @@
 -- strlen meets its definition, by the rules of Kit.
-use Rattle.psx_flow.proofs.Kit.{◌≡◌, ◌≢◌, ℕ, suc, ◌+◌, ◌*◌, ◌%◌, ◌^◌, ◌<◌, ◌≤◌, ◌++◌, inl, inr, List, true, false, refl, sym, ◌∙◌, subst, arith, Memory, Run, Access, Meets, Calls, Tree, Stop, Do, When, Loop, Visit, Go, user, kernel_words, start, while, Turn, below_suc, Sym, ended, wrapped}
+use Rattle.psx_flow.proofs.Kit.{◌≡◌, ◌≢◌, ℕ, suc, ◌+◌, ◌*◌, ◌%◌, ◌^◌, ◌<◌, ◌≤◌, ◌++◌, inl, inr, List, true, false, refl, sym, ◌∙◌, subst, arith, Memory, Run, Access, Meets, Calls, Tree, Stop, Do, When, Visit, Go, user, kernel_words, start, while, Turn, below_suc, Sym, ended, wrapped}
 use Rattle.psx_ins.specs.declared.reg.Reg.{Reg}
-use Rattle.psx_ins.specs.declared.ins.Ins.TheVariants.{OR, SUBU, ADDIU}
+use Rattle.psx_ins.specs.declared.ins.Ins.TheVariants.{SUBU, ADDIU}
 use Rattle.psx_flow.specs.declared.node.Test.TheVariants.{Same, Differ}
+use Rattle.std.specs.Prelude.{unwrap_or}
+use Rattle.flow_pilots.specs.declared.strlen.TheConstants.{NODES}
+use Rattle.psx_flow.specs.Reading.{tree_of}
 use Rattle.psx_flow.proofs.Users.{left, left_most, left_less}
 use Rattle.psx_flow.proofs.Knows.{Knows, Places}
 use Rattle.flow_pilots.specs.Strlen.{from, at, Text, reads, Strlen}
@@ -10,6 +13,7 @@ use Rattle.flow_pilots.specs.Strlen.{from, at, Text, reads, Strlen}
 abbrev pub r : ℕ → Reg
 r n = record { 0 = n }
 
+-- the loop's body, and what follows it
 abbrev pub turn_tree : Tree
 turn_tree =
     Do (ADDIU (r 8) (r 8) 1)
@@ -23,13 +27,7 @@ end_tree =
     (Go 0x1E00 Stop)
 
 abbrev pub strlen_tree : Tree
-strlen_tree =
-    When (Same (r 4) (r 0)) (Do (OR (r 0) (r 0) (r 2)) (Go 0x1E00 Stop))
-    (Do (OR (r 0) (r 4) (r 8))
-    (Visit 0x1C00
-    (When (Same (r 10) (r 0)) (Go 0x1E80 Stop)
-    (Loop (Differ (r 9) (r 0)) turn_tree
-    end_tree))))
+strlen_tree = unwrap_or (tree_of NODES) Stop
 
 abbrev pub places : Places
 places = record { read_byte = 0x1C00; write_byte = 0x1C80; read_word = 0x1D00; write_word = 0x1D80 }
