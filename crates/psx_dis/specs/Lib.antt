@@ -1,0 +1,5 @@
+pub mod Mnemonics
+pub mod Targets
+pub mod Operands
+pub mod Numbers
+pub mod Printed

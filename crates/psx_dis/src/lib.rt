@@ -1,0 +1,15 @@
+//! Words of machine code printed as assembly language.
+//! `print` gives the text of the definition `printed` (`specs/Printed.antt`), and `mnemonic` the one of an instruction.
+//! The top call's command `dis` is to send such a text. That assembling the text gives the words back isn't proved yet.
+#![tactic(auto)]
+
+mod mnemonics;
+mod operands;
+mod printer;
+mod target;
+#[cfg(test)]
+mod tests;
+mod text;
+
+pub use mnemonics::mnemonic;
+pub use printer::print;
