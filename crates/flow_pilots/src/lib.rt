@@ -5,16 +5,5 @@
 pub mod places;
 pub mod strlen;
 pub mod table;
-
 #[cfg(test)]
-mod tests {
-    use crate::strlen::strlen;
-    use crate::table::disable;
-    use psx_flow::size_of;
-
-    #[test]
-    fn listings_have_their_words(rt: HostRuntime) {
-        assert_eq!(rt; size_of(strlen()), 26);
-        assert_eq!(rt; size_of(disable()), 16);
-    }
-}
+mod tests;
