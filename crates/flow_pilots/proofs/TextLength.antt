@@ -15,16 +15,10 @@ r n = record { 0 = n }
 
 -- the loop's body, and what follows it
 abbrev pub turn_tree : Tree
-turn_tree =
-    Do (ADDIU (r 8) (r 8) 1)
-    (Visit 0x1C00
-    (When (Same (r 10) (r 0)) (Go 0x1E80 Stop)
-    Stop))
+turn_tree = Do (ADDIU (r 8) (r 8) 1) (Visit 0x1C00 (When (Same (r 10) (r 0)) (Go 0x1E80 Stop) Stop))
 
 abbrev pub end_tree : Tree
-end_tree =
-    Do (SUBU (r 8) (r 4) (r 2))
-    (Go 0x1E00 Stop)
+end_tree = Do (SUBU (r 8) (r 4) (r 2)) (Go 0x1E00 Stop)
 
 abbrev pub strlen_tree : Tree
 strlen_tree = unwrap_or (tree_of NODES) Stop
