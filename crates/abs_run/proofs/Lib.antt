@@ -1,0 +1,9 @@
+pub mod UserMemory
+pub mod UserSide
+pub mod Answers
+pub mod Delivered
+pub mod Entering
+pub mod Behind
+pub mod Standing
+pub mod Signed
+pub mod Composition

@@ -1,0 +1,7 @@
+pub mod Accepted
+pub mod InKernel
+pub mod Serves
+pub mod Entered
+pub mod KernelRun
+pub mod Invariant
+pub mod RunLaws

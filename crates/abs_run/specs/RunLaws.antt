@@ -1,0 +1,35 @@
+-- What holds of the runs of a ROM that serves, and of kernel runs.
+use Rattle.std.specs.Prelude.{◌≡◌, ◌≢◌, ◌⊎◌, ℕ, ◌<◌, ◌≤◌, List, [], ◌∷◌}
+use Rattle.psx_base.specs.declared.stop.Stop.{Stop}
+use Rattle.psx_base.specs.declared.stop.Stop.TheVariants.{Budget}
+use Rattle.psx_base.specs.declared.stop.Sizes.{Sizes}
+use Rattle.psx_base.specs.Memory.{Memory}
+use Rattle.psx_base.specs.Items.{Entrance, Item, B, S}
+use Rattle.psx_base.specs.KernelState.{KernelState}
+use Rattle.psx_sched.specs.declared.schedule.Entry.{Entry}
+use Rattle.psx_exe.specs.declared.exe.Exe.{Exe}
+use Rattle.psx_ports.specs.History.{History}
+use Rattle.psx_board.specs.Run.{board_run}
+use Rattle.kern_layout.specs.Start.{SizesFit}
+use Rattle.kern_layout.specs.Stands.{SameUser}
+use Rattle.abs_run.specs.Accepted.{IsAccepted, AreBytes, program_memory}
+use Rattle.abs_run.specs.Serves.{Serves}
+use Rattle.abs_run.specs.KernelRun.{KernelRun}
+use Rattle.abs_run.specs.Invariant.{IsInvariant, EachEntry}
+
+-- Where a ROM serves what is covered, each run of the board whose entries are covered is a kernel run of its program, whatever the schedule and the budget.
+abbrev pub BoardRuns : (KernelState → ℕ → Type 0) → (KernelState → History → Type 0) → (Entrance → ℕ → Type 0) → Type 0
+BoardRuns covers keeps shows =
+    (rom : List ℕ) → Serves covers rom → IsInvariant covers keeps shows
+    → (exe : Exe) (sizes : Sizes) (schedule : List Entry) (budget : ℕ) → IsAccepted exe → SizesFit sizes → AreBytes schedule
+    → let o = board_run rom exe sizes schedule budget in EachEntry shows o.items → KernelRun exe sizes o.items o.tty o.last.core.bytes
+
+-- the boot ends after its number of steps, or before it by the budget
+abbrev pub BootsIn : ℕ → (budget : ℕ) → List Item → Type 0
+BootsIn steps budget items = ((budget < steps) × (items ≡ S budget Budget ∷ [])) ⊎ ((steps ≤ budget) × (rest : List Item) × (items ≡ B steps ∷ rest))
+
+-- and this number is the same for all programs, sizes, schedules and budgets
+abbrev pub BoardBoots : (KernelState → ℕ → Type 0) → Type 0
+BoardBoots covers =
+    (rom : List ℕ) (serves : Serves covers rom) (exe : Exe) (sizes : Sizes) (schedule : List Entry) (budget : ℕ) → IsAccepted exe → SizesFit sizes → AreBytes schedule
+    → BootsIn serves.boot_steps budget (board_run rom exe sizes schedule budget).items
