@@ -39,17 +39,10 @@ use Rattle.abs_run.specs.Invariant.{Passes, EntersAt, ReturnsTo, IsInvariant, Ea
 use Rattle.abs_run.proofs.UserSide.{Continues, UserMade, step-made}
 use Rattle.abs_run.proofs.Delivered.{passes-then, Arrives, MachineFits, delivers, delivered-fits, bus-small, in_kernel-arrived}
 use Rattle.abs_run.proofs.Entering.{item_of, entry-is}
+use Rattle.abs_run.proofs.Counts.{run-zero, run-suc}
 use Rattle.abs_run.proofs.Behind.{Behind, ports-append, bytes-append, behind-asked, behind-told, behind-written, does, is_within}
 use Rattle.abs_run.proofs.Standing.{stands-on, takes-on}
 use Rattle.abs_run.proofs.Signed.{After, Signed, signed}
-
-run-zero : (m : Machine) → run zero m ≡ ended m Budget
-unfolding run
-run-zero m = refl
-
-run-suc : (n : ℕ) (m : Machine) → run (suc n) m ≡ then_run (stepped (delivered m)) (run n)
-unfolding run turn
-run-suc n m = refl
 
 step-interrupt : (k : Core) (bus : Bus) → takes_interrupt k.processor bus.line ≡ true → step k bus ≡ entered k interrupt
 unfolding step

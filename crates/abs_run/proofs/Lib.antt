@@ -6,4 +6,7 @@ pub mod Entering
 pub mod Behind
 pub mod Standing
 pub mod Signed
+pub mod Counts
 pub mod Composition
+pub mod PortAsked
+pub mod FromReset
