@@ -10,3 +10,6 @@ pub mod Counts
 pub mod Composition
 pub mod PortAsked
 pub mod FromReset
+pub mod Whole
+pub mod Determined
+pub mod Listing

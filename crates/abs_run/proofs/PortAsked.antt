@@ -23,7 +23,7 @@ use Rattle.abs_run.specs.Serves.{is_start_port}
 
 -- ---- the value of a read is the bus's
 
-abbrev TakesValue : ℕ → Move → Type 0
+abbrev pub TakesValue : ℕ → Move → Type 0
 TakesValue v (Reads next at value) = value ≡ v
 TakesValue v _ = Unit {0}
 
@@ -37,7 +37,7 @@ executed-takes k bus (SW s t imm) = takes-if bus.value (port (place (data_addres
 executed-takes k bus RFE = tt
 executed-takes k bus _ = tt
 
-step-takes : (k : Core) (bus : Bus) → TakesValue bus.value (step k bus)
+pub step-takes : (k : Core) (bus : Bus) → TakesValue bus.value (step k bus)
 step-takes k bus = step-all (TakesValue bus.value) k bus (λ s. tt) (λ t. tt) (λ i. passed-all (TakesValue bus.value) k bus (λ s. tt) (λ t. tt) i (executed-takes k bus i))
 
 -- ---- the port doesn't hang on the value
