@@ -1,14 +1,10 @@
 -- From steps and stays that are served to whole runs, by induction on the budget.
-use Rattle.std.proofs.Common.{◌≡◌, ◌≢◌, ℕ, zero, suc, ◌+◌, ◌*◌, ◌<◌, ◌≤◌, Bool, true, false, List, [], ◌∷◌, ◌++◌, refl, sym, ap, subst, ◌∙◌, inl, inr, ◌⊎◌, append-nil, append_assoc, arith}
-use Rattle.std.specs.Prelude.{if◌then◌else◌, is_some}
-use Rattle.std.proofs.lemmas.Bool.{false≢true}
+use Rattle.std.proofs.Common.{◌≡◌, ℕ, zero, suc, ◌+◌, ◌*◌, ◌<◌, Bool, true, false, List, [], ◌∷◌, ◌++◌, refl, sym, ap, subst, ◌∙◌, inl, inr, ◌⊎◌, append-nil, append_assoc, arith}
 use Rattle.psx_base.specs.declared.ports.TheConstants.{CONSOLE_DATA}
 use Rattle.psx_base.specs.declared.stop.Stop.{Stop}
-use Rattle.psx_base.specs.declared.stop.Stop.TheVariants.{Budget}
-use Rattle.psx_base.specs.Addresses.{gate_of}
 use Rattle.psx_base.specs.Memory.{Memory}
 use Rattle.psx_base.specs.Context.{Context}
-use Rattle.psx_base.specs.Items.{Entrance, Item, E, X, S}
+use Rattle.psx_base.specs.Items.{Entrance, Item, E, S}
 use Rattle.psx_base.specs.KernelState.{KernelState}
 use Rattle.psx_cpu.specs.Processor.{Core, Bus, Trap}
 use Rattle.psx_cpu.specs.Exceptions.{enter, takes_interrupt}
@@ -18,9 +14,8 @@ use Rattle.psx_ports.specs.History.{History, Read, Write, then_event, line}
 use Rattle.psx_board.specs.Machine.{Machine}
 use Rattle.psx_board.specs.Delivery.{delivered}
 use Rattle.psx_board.specs.Entries.{entry}
-use Rattle.psx_board.specs.Turn.{Turn, On, bus_of, moved, shown, by_move, stepped, turn}
-use Rattle.psx_board.specs.Turn as board
-use Rattle.psx_board.specs.Run.{Outcome, run, then_run, ended}
+use Rattle.psx_board.specs.Turn.{Turn, On, bus_of, moved, shown, by_move, stepped}
+use Rattle.psx_board.specs.Run.{Outcome, run, then_run}
 use Rattle.kern_layout.specs.Valid.{Valid}
 use Rattle.kern_layout.specs.Stands.{Stands, SameUser}
 use Rattle.abs_kernel.specs.Cause.{entry_of}
@@ -31,18 +26,18 @@ use Rattle.abs_kernel.specs.StayLaws.{EachReturn}
 use Rattle.abs_kernel.specs.UserLaws as UserLaws
 use Rattle.abs_kernel.proofs.Ends.{valid_kept}
 use Rattle.abs_kernel.proofs.UserSteps.{user_step_keeps_valid}
-use Rattle.abs_run.specs.InKernel.{InKernel, in_kernel, side_of, Sign, Nothing, PortRead, PortWritten, Printed, LeftKernel, EndedRun, Strayed, sign_of}
+use Rattle.abs_run.specs.InKernel.{InKernel, in_kernel, side_of, Sign, Nothing, PortRead, PortWritten, Printed, LeftKernel, EndedRun, sign_of}
 use Rattle.abs_run.specs.Entered.{coming, interrupt, bound_of}
 use Rattle.abs_run.specs.Serves.{Onward, Comes, AsksFor, Tells, Prints, Returns, Ends, Runs, Serves}
 use Rattle.abs_run.specs.KernelRun.{Place, User, Kernel, Does, RunsFrom}
 use Rattle.abs_run.specs.Invariant.{Passes, EntersAt, ReturnsTo, IsInvariant, EachEntry}
-use Rattle.abs_run.proofs.UserSide.{Continues, UserMade, step-made}
+use Rattle.abs_run.proofs.UserSide.{UserMade, step-made}
 use Rattle.abs_run.proofs.Delivered.{passes-then, Arrives, MachineFits, delivers, delivered-fits, bus-small, in_kernel-arrived}
 use Rattle.abs_run.proofs.Entering.{item_of, entry-is}
 use Rattle.abs_run.proofs.Counts.{run-zero, run-suc}
 use Rattle.abs_run.proofs.Behind.{Behind, ports-append, bytes-append, behind-asked, behind-told, behind-written, does, is_within}
 use Rattle.abs_run.proofs.Standing.{stands-on, takes-on}
-use Rattle.abs_run.proofs.Signed.{After, Signed, signed}
+use Rattle.abs_run.proofs.Signed.{Signed, signed}
 
 step-interrupt : (k : Core) (bus : Bus) → takes_interrupt k.processor bus.line ≡ true → step k bus ≡ entered k interrupt
 unfolding step
@@ -100,65 +95,65 @@ module _ (covers : KernelState → ℕ → Type 0) (keeps : KernelState → Hist
     quiet rest k t bound h (next, is, at, after) runs =
         subst Goal (sym is)
         (again made rest bound next
-         (record { behind = h.behind; valid = h.valid; since = h.since; returns = h.returns; passes = passes-then h.since d.history next.history (until rest h) after.passes; began = after.began; fits = after.fits (fit rest h) })
-         (subst (Runs rom rest bound) (sym at) runs))
+        (record { behind = h.behind; valid = h.valid; since = h.since; returns = h.returns; passes = passes-then h.since d.history next.history (until rest h) after.passes; began = after.began; fits = after.fits (fit rest h) })
+        (subst (Runs rom rest bound) (sym at) runs))
 
     asked : (port : ℕ) (rest : ℕ → Stay) (at value : ℕ) (k : InKernel) (t : Turn) (bound : ℕ) → InStay s code made (Ask port rest) m → Signed d (PortRead k at value) t → at ≡ port → Runs rom (rest value) bound k → Goal t
     asked port rest at value k t bound h (next, is, here, after) e runs =
         let o = run n next in
         subst Goal (sym is)
         (λ each. change o.items s code (ports_of (made ++ Asked port value ∷ [])) (ports_of made ++ Asked at value ∷ []) (bytes_of (made ++ Asked port value ∷ []) ++ o.tty) (bytes_of made ++ o.tty) o.last.core.bytes
-         (ports-append made (Asked port value ∷ []) ∙ ap (λ (p : ℕ). ports_of made ++ Asked p value ∷ []) (sym e))
-         (ap (λ (x : List ℕ). x ++ o.tty) (bytes-append made (Asked port value ∷ []) ∙ append-nil (bytes_of made)))
-         (again (made ++ Asked port value ∷ []) (rest value) bound next
-          (record {
-            behind = behind-asked (stay_of s code) made port value rest h.behind;
-            valid = h.valid value;
-            since = then_event d.history (Read d.history.now port);
-            returns = h.returns d.history value (until (Ask port rest) h);
-            passes = subst (λ (p : ℕ). Passes (then_event d.history (Read d.history.now p)) next.history) e after.passes;
-            began = after.began;
-            fits = after.fits (fit (Ask port rest) h);
-          })
-          (subst (Runs rom (rest value) bound) (sym here) runs) each))
+        (ports-append made (Asked port value ∷ []) ∙ ap (λ (p : ℕ). ports_of made ++ Asked p value ∷ []) (sym e))
+        (ap (λ (x : List ℕ). x ++ o.tty) (bytes-append made (Asked port value ∷ []) ∙ append-nil (bytes_of made)))
+        (again (made ++ Asked port value ∷ []) (rest value) bound next
+        (record {
+          behind = behind-asked (stay_of s code) made port value rest h.behind;
+          valid = h.valid value;
+          since = then_event d.history (Read d.history.now port);
+          returns = h.returns d.history value (until (Ask port rest) h);
+          passes = subst (λ (p : ℕ). Passes (then_event d.history (Read d.history.now p)) next.history) e after.passes;
+          began = after.began;
+          fits = after.fits (fit (Ask port rest) h);
+        })
+        (subst (Runs rom (rest value) bound) (sym here) runs) each))
 
     told : (port value : ℕ) (rest : Stay) (at written : ℕ) (k : InKernel) (t : Turn) (bound : ℕ) → InStay s code made (Tell port value rest) m → Signed d (PortWritten k at written) t → at ≡ port → written ≡ value → Runs rom rest bound k → Goal t
     told port value rest at written k t bound h (next, is, here, after) e f runs =
         let o = run n next in
         subst Goal (sym is)
         (λ each. change o.items s code (ports_of (made ++ Told port value ∷ [])) (ports_of made ++ Told at written ∷ []) (bytes_of (made ++ Told port value ∷ []) ++ o.tty) (bytes_of made ++ o.tty) o.last.core.bytes
-         (ports-append made (Told port value ∷ []) ∙ (λ i. ports_of made ++ Told (sym e i) (sym f i) ∷ []))
-         (ap (λ (x : List ℕ). x ++ o.tty) (bytes-append made (Told port value ∷ []) ∙ append-nil (bytes_of made)))
-         (again (made ++ Told port value ∷ []) rest bound next
-          (record {
-            behind = behind-told (stay_of s code) made port value rest h.behind;
-            valid = h.valid;
-            since = then_event d.history (Write d.history.now port value);
-            returns = h.returns d.history (until (Tell port value rest) h);
-            passes = subst (λ (v : ℕ). Passes (then_event d.history (Write d.history.now port v)) next.history) f (subst (λ (p : ℕ). Passes (then_event d.history (Write d.history.now p written)) next.history) e after.passes);
-            began = after.began;
-            fits = after.fits (fit (Tell port value rest) h);
-          })
-          (subst (Runs rom rest bound) (sym here) runs) each))
+        (ports-append made (Told port value ∷ []) ∙ (λ i. ports_of made ++ Told (sym e i) (sym f i) ∷ []))
+        (ap (λ (x : List ℕ). x ++ o.tty) (bytes-append made (Told port value ∷ []) ∙ append-nil (bytes_of made)))
+        (again (made ++ Told port value ∷ []) rest bound next
+        (record {
+          behind = behind-told (stay_of s code) made port value rest h.behind;
+          valid = h.valid;
+          since = then_event d.history (Write d.history.now port value);
+          returns = h.returns d.history (until (Tell port value rest) h);
+          passes = subst (λ (v : ℕ). Passes (then_event d.history (Write d.history.now port v)) next.history) f (subst (λ (p : ℕ). Passes (then_event d.history (Write d.history.now p written)) next.history) e after.passes);
+          began = after.began;
+          fits = after.fits (fit (Tell port value rest) h);
+        })
+        (subst (Runs rom rest bound) (sym here) runs) each))
 
     written : (byte : ℕ) (rest : Stay) (put : ℕ) (k : InKernel) (t : Turn) (bound : ℕ) → InStay s code made (Put byte rest) m → Signed d (Printed k put) t → put ≡ byte → Runs rom rest bound k → Goal t
     written byte rest put k t bound h (next, value, is, here, low, after) e runs =
         let o = run n next in
         subst Goal (sym is)
         (λ each. change o.items s code (ports_of (made ++ Written byte ∷ [])) (ports_of made) (bytes_of (made ++ Written byte ∷ []) ++ o.tty) (bytes_of made ++ (put ∷ o.tty)) o.last.core.bytes
-         (ports-append made (Written byte ∷ []) ∙ append-nil (ports_of made))
-         (ap (λ (x : List ℕ). x ++ o.tty) (bytes-append made (Written byte ∷ [])) ∙ append_assoc (bytes_of made) (byte ∷ []) o.tty ∙ ap (λ (v : ℕ). bytes_of made ++ (v ∷ o.tty)) (sym e))
-         (again (made ++ Written byte ∷ []) rest bound next
-          (record {
-            behind = behind-written (stay_of s code) made byte rest h.behind;
-            valid = h.valid;
-            since = then_event d.history (Write d.history.now CONSOLE_DATA value);
-            returns = h.returns d.history value (until (Put byte rest) h) (low ∙ e);
-            passes = after.passes;
-            began = after.began;
-            fits = after.fits (fit (Put byte rest) h);
-          })
-          (subst (Runs rom rest bound) (sym here) runs) each))
+        (ports-append made (Written byte ∷ []) ∙ append-nil (ports_of made))
+        (ap (λ (x : List ℕ). x ++ o.tty) (bytes-append made (Written byte ∷ [])) ∙ append_assoc (bytes_of made) (byte ∷ []) o.tty ∙ ap (λ (v : ℕ). bytes_of made ++ (v ∷ o.tty)) (sym e))
+        (again (made ++ Written byte ∷ []) rest bound next
+        (record {
+          behind = behind-written (stay_of s code) made byte rest h.behind;
+          valid = h.valid;
+          since = then_event d.history (Write d.history.now CONSOLE_DATA value);
+          returns = h.returns d.history value (until (Put byte rest) h) (low ∙ e);
+          passes = after.passes;
+          began = after.began;
+          fits = after.fits (fit (Put byte rest) h);
+        })
+        (subst (Runs rom rest bound) (sym here) runs) each))
 
     returned : (state : KernelState) (core : Core) (t : Turn) → InStay s code made (Return state) m → Signed d (LeftKernel core) t → Stands (side_of core) core.bytes state rom → Goal t
     returned state core t h (next, is, here, after) stands =
@@ -172,14 +167,14 @@ module _ (covers : KernelState → ℕ → Type 0) (keeps : KernelState → Hist
           record { at = ap (λ (c : Context). c.pc) stands.context; interrupts = stands.sr; registers = ap (λ (c : Context). c.regs) stands.context },
           refl,
           subst (λ (c : ℕ). RunsFrom o.items (User state c) o.tty o.last.core.bytes) after.counted
-          (main n next state (omega arith)
-           (record {
-             stands = subst (λ (k : Core). Stands (side_of k) k.bytes state rom) (sym here) stands;
-             valid = h.valid;
-             invariant = inv.time state h.since next.history h.returns (passes-then h.since d.history next.history (until (Return state) h) after.passes);
-             began = after.began;
-             fits = after.fits (fit (Return state) h);
-           }) each),
+              (main n next state (omega arith)
+              (record {
+                stands = subst (λ (k : Core). Stands (side_of k) k.bytes state rom) (sym here) stands;
+                valid = h.valid;
+                invariant = inv.time state h.since next.history h.returns (passes-then h.since d.history next.history (until (Return state) h) after.passes);
+                began = after.began;
+                fits = after.fits (fit (Return state) h);
+              }) each),
         ))
 
     halted : (stop : Stop) (memory : Memory) (core : Core) (told : Stop) (t : Turn) → InStay s code made (Halt stop memory) m → Signed d (EndedRun core told) t → told ≡ stop → SameUser core.bytes memory → Goal t
@@ -289,20 +284,27 @@ module _ (covers : KernelState → ℕ → Type 0) (keeps : KernelState → Hist
         let covered = inv.covered s here.history trap u.valid kept may each.0 in
         let same = now-same in
         let next = moved here (core_after trap) in
-        let h = here.history in
-        (0, s, trap, refl, omega arith, may-enter s here.history trap may, record { line = line; causes = refl; at = refl; by = refl; named = refl },
-         stay_run n (λ j x t less. main j x t (omega arith)) s trap.code [] (stay_of s trap.code) (bound_of s trap.code) next
-         (record {
-           behind = λ more. refl;
-           valid = valid_kept s trap.code u.valid;
-           since = here.history;
-           returns = inv.stay s here.history trap u.valid kept may covered;
-           passes = record { given = refl; accesses = refl; now = omega arith };
-           began = u.began;
-           fits = (let f = delivered-fits m u.fits in record { history = record { given = f.history.given; bytes = f.history.bytes }; waiting = f.waiting });
-         })
-         (serves.stays here.core s trap (in_kernel here.core h).a (in_kernel here.core h).b (in_kernel here.core h).c u.valid u.stands (may-enter s here.history trap may) covered)
-         each.1)
+        let h = here.history in (
+          0,
+          s,
+          trap,
+          refl,
+          omega arith,
+          may-enter s here.history trap may,
+          record { line = line; causes = refl; at = refl; by = refl; named = refl },
+          stay_run n (λ j x t less. main j x t (omega arith)) s trap.code [] (stay_of s trap.code) (bound_of s trap.code) next
+              (record {
+                behind = λ more. refl;
+                valid = valid_kept s trap.code u.valid;
+                since = here.history;
+                returns = inv.stay s here.history trap u.valid kept may covered;
+                passes = record { given = refl; accesses = refl; now = omega arith };
+                began = u.began;
+                fits = (let f = delivered-fits m u.fits in record { history = record { given = f.history.given; bytes = f.history.bytes }; waiting = f.waiting });
+              })
+              (serves.stays here.core s trap (in_kernel here.core h).a (in_kernel here.core h).b (in_kernel here.core h).c u.valid u.stands (may-enter s here.history trap may) covered)
+              each.1,
+        )
 
     entry-shown : (trap : Trap) → by_move here (Enters (core_after trap) trap.code) ≡ On (moved here (core_after trap)) (item_of here.history.now (line here.history) (entry_of s.running.context trap.code) ∷ []) []
     entry-shown trap =
@@ -316,13 +318,13 @@ module _ (covers : KernelState → ℕ → Type 0) (keeps : KernelState → Hist
         λ each. more_user o.items s c x m.history.now o.tty o.last.core.bytes e
         (subst (λ (k : ℕ). RunsFrom o.items (User (UserLaws.stepped s c x) k) o.tty o.last.core.bytes) (ap (λ (k : ℕ). k + 1) now-same)
         (main n (moved here next) (UserLaws.stepped s c x) (omega arith)
-         (record {
-           stands = stands-on here.core next s c x rom u.valid u.stands h;
-           valid = user_step_keeps_valid s c x u.valid e;
-           invariant = inv.time (UserLaws.stepped s c x) here.history (moved here next).history (inv.user s here.history c x u.valid kept e) (record { given = refl; accesses = refl; now = omega arith });
-           began = u.began;
-           fits = (let f = delivered-fits m u.fits in record { history = record { given = f.history.given; bytes = f.history.bytes }; waiting = f.waiting });
-         }) each))
+        (record {
+          stands = stands-on here.core next s c x rom u.valid u.stands h;
+          valid = user_step_keeps_valid s c x u.valid e;
+          invariant = inv.time (UserLaws.stepped s c x) here.history (moved here next).history (inv.user s here.history c x u.valid kept e) (record { given = refl; accesses = refl; now = omega arith });
+          began = u.began;
+          fits = (let f = delivered-fits m u.fits in record { history = record { given = f.history.given; bytes = f.history.bytes }; waiting = f.waiting });
+        }) each))
     on-user (Enters next code) (Raises trap) e h =
         subst UserGoal (sym ((λ i. by_move here (Enters (h.0 i) (h.1 i))) ∙ entry-shown trap)) (entering trap (line here.history) (inl e))
     on-user (Stops stop) (Halts told) e h =
@@ -337,7 +339,7 @@ module _ (covers : KernelState → ℕ → Type 0) (keeps : KernelState → Hist
     by-interrupt false e =
         on-user (step here.core (bus_of here)) (coming s) refl
         (subst (λ (c : Context). UserMade here.core (step here.core (bus_of here)) (user_step c s.memory)) u.stands.context
-         (step-made here.core s.memory (bus_of here) u.stands.user u.stands.latch e (serves.gates here.core.bytes here.core.processor.context.pc u.stands.code)))
+        (step-made here.core s.memory (bus_of here) u.stands.user u.stands.latch e (serves.gates here.core.bytes here.core.processor.context.pc u.stands.code)))
 
   user_run : (high : ℕ) → Main high
   user_run zero j m s less u = absurd (omega arith)

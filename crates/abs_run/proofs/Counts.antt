@@ -1,5 +1,5 @@
 -- The counts of a run's items don't fall.
-use Rattle.std.proofs.Common.{◌≡◌, ℕ, zero, suc, ◌+◌, ◌≤◌, Bool, true, false, List, [], ◌∷◌, ◌++◌, refl, sym, ap, subst, ◌∙◌, arith}
+use Rattle.std.proofs.Common.{◌≡◌, ℕ, zero, suc, ◌+◌, ◌≤◌, Bool, true, false, List, [], ◌∷◌, ◌++◌, refl, sym, subst, ◌∙◌, arith}
 use Rattle.std.specs.Prelude.{if◌then◌else◌, nat_le, ◌&&◌}
 use Rattle.psx_base.specs.declared.ports.TheConstants.{CONSOLE_STATUS, HALT}
 use Rattle.psx_base.specs.declared.stop.Stop.TheVariants.{Budget}
@@ -15,7 +15,7 @@ use Rattle.psx_ports.specs.History.{History, Write, written, line}
 use Rattle.psx_board.specs.Machine.{Machine}
 use Rattle.psx_board.specs.Delivery.{arrived, all_arrived, delivered, due}
 use Rattle.psx_board.specs.Entries.{entry, return}
-use Rattle.psx_board.specs.Turn.{Turn, On, Ends, bus_of, moved, accessed, shown, write_shown, after_write, by_move, stepped, turn}
+use Rattle.psx_board.specs.Turn.{Turn, On, Ends, bus_of, moved, accessed, shown, after_write, by_move, stepped, turn}
 use Rattle.psx_board.specs.Run.{run, then_run, ended}
 use Rattle.abs_run.specs.KernelRun.{count_of, Rising}
 

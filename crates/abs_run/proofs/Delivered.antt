@@ -1,22 +1,21 @@
 -- What deliveries, accesses and finished steps leave of a history.
-use Rattle.std.proofs.Common.{◌≡◌, ℕ, ◌+◌, ◌^◌, ◌≤◌, ◌<◌, Bool, true, false, List, [], ◌∷◌, Option, Some, None, refl, sym, ap, subst, ◌∙◌, arith}
-use Rattle.std.specs.Prelude.{if◌then◌else◌, nat_le, nat_eq}
+use Rattle.std.proofs.Common.{◌≡◌, ℕ, ◌^◌, ◌<◌, Bool, true, false, List, [], ◌∷◌, Option, Some, None, refl, sym, ◌∙◌, arith}
+use Rattle.std.specs.Prelude.{if◌then◌else◌, nat_le}
 use Rattle.std.proofs.lemmas.List.Elements.{All-head, All-tail}
 use Rattle.psx_base.specs.declared.ports.TheConstants.{HALT_A, HALT_B, HALT_C}
 use Rattle.psx_sched.specs.declared.schedule.What.{What}
 use Rattle.psx_sched.specs.declared.schedule.What.TheVariants.{Byte, Line}
 use Rattle.psx_sched.specs.declared.schedule.Entry.{Entry}
 use Rattle.psx_sched.specs.Accepted.{IsByte}
-use Rattle.psx_cpu.specs.Processor.{Core, Bus}
-use Rattle.psx_cpu.specs.Step.{step, port_read}
-use Rattle.psx_ports.specs.History.{History, Event, Raise, Give, then_event, last_written, answer, line}
+use Rattle.psx_cpu.specs.Processor.{Core}
+use Rattle.psx_ports.specs.History.{History, last_written, line}
 use Rattle.psx_board.specs.Machine.{Machine}
 use Rattle.psx_board.specs.Delivery.{due, later, arrived, all_arrived, delivered}
 use Rattle.psx_board.specs.Turn.{asked, answered, bus_of}
 use Rattle.abs_run.specs.Accepted.{AreBytes}
-use Rattle.abs_run.specs.Invariant.{Passes, accesses_of}
-use Rattle.abs_run.specs.InKernel.{InKernel, in_kernel}
-use Rattle.abs_run.proofs.Answers.{HistoryFits, BytesFit, answer-small}
+use Rattle.abs_run.specs.Invariant.{Passes}
+use Rattle.abs_run.specs.InKernel.{in_kernel}
+use Rattle.abs_run.proofs.Answers.{HistoryFits, answer-small}
 
 -- ---- time
 

@@ -1,27 +1,26 @@
 -- The items of a kernel run determine its console bytes and the user's memory at its end.
-use Rattle.std.proofs.Common.{◌≡◌, ◌≢◌, ℕ, zero, suc, ◌+◌, Bool, true, false, Option, Some, None, List, [], ◌∷◌, ◌++◌, ◌⊎◌, inl, inr, refl, sym, ap, subst, ◌∙◌, arith}
+use Rattle.std.proofs.Common.{◌≡◌, ◌≢◌, ℕ, zero, suc, Bool, true, false, Option, Some, None, List, [], ◌∷◌, ◌++◌, ◌⊎◌, inl, inr, refl, sym, ap, subst, ◌∙◌, arith}
 use Rattle.std.specs.Prelude.{if◌then◌else◌, nat_eq}
 use Rattle.std.proofs.lemmas.Bool.{eqb-true}
 use Rattle.psx_base.specs.declared.address.Gate.{Gate}
 use Rattle.psx_base.specs.declared.address.Gate.TheVariants.{A, B as GateB, C, Done, Back}
-use Rattle.psx_base.specs.declared.stop.Stop.{Stop}
 use Rattle.psx_base.specs.declared.stop.Stop.TheVariants.{Budget}
 use Rattle.psx_base.specs.declared.stop.Sizes.{Sizes}
 use Rattle.psx_base.specs.Addresses.{gate_of}
 use Rattle.psx_base.specs.Memory.{Memory, byte}
 use Rattle.psx_base.specs.Context.{Context, epc_of}
-use Rattle.psx_base.specs.Items.{Entrance, ByInterrupt, ByTrap, Item, B, E, R, W, X, S}
+use Rattle.psx_base.specs.Items.{ByInterrupt, ByTrap, Item, B, E, R, W, X, S}
 use Rattle.psx_base.specs.KernelState.{KernelState}
 use Rattle.psx_exe.specs.declared.exe.Exe.{Exe}
 use Rattle.psx_cpu.specs.Processor.{Trap}
-use Rattle.psx_cpu.specs.UserStep.{UserMove, Next, Raises}
+use Rattle.psx_cpu.specs.UserStep.{Next, Raises}
 use Rattle.kern_layout.specs.Stands.{SameUser}
 use Rattle.abs_kernel.specs.Cause.{entrance, entrance_of, by_syscall}
-use Rattle.abs_kernel.specs.Played.{Access, Asked, Told, End, Returned, Halted}
+use Rattle.abs_kernel.specs.Played.{Asked, Told, Returned, Halted}
 use Rattle.abs_kernel.specs.UserLaws.{stepped}
 use Rattle.abs_run.specs.Accepted.{opening}
-use Rattle.abs_run.specs.Entered.{coming, UserSteps, interrupt, MayEnter}
-use Rattle.abs_run.specs.KernelRun.{Place, User, Kernel, Does, RunsFrom, KernelRun, EndsInBoot, ComesToProgram}
+use Rattle.abs_run.specs.Entered.{UserSteps, MayEnter}
+use Rattle.abs_run.specs.KernelRun.{Place, User, Kernel, RunsFrom, EndsInBoot, ComesToProgram}
 use Rattle.abs_run.specs.RunLaws.{EndsWhole, ItemsDetermine}
 
 -- ---- user code

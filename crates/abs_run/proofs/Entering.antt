@@ -1,5 +1,5 @@
 -- The item of an entry shows the entry.
-use Rattle.std.proofs.Common.{◌≡◌, ℕ, ◌+◌, ◌*◌, ◌^◌, Bool, true, false, Option, Some, None, refl, sym, ap, subst, ◌∙◌}
+use Rattle.std.proofs.Common.{◌≡◌, ℕ, ◌+◌, ◌^◌, Bool, true, false, Option, Some, None, refl, ap, ◌∙◌}
 use Rattle.std.specs.Prelude.{if◌then◌else◌, nat_eq, nat_le}
 use Rattle.std.proofs.lemmas.Bool.{eqb-true}
 use Rattle.psx_base.specs.declared.address.Gate.{Gate}
@@ -8,7 +8,7 @@ use Rattle.psx_base.specs.Addresses.{gate_of}
 use Rattle.psx_base.specs.Memory.{Memory}
 use Rattle.psx_base.specs.Context.{settle, epc_of}
 use Rattle.psx_base.specs.Items.{Entrance, ByInterrupt, ByTrap, Item, E}
-use Rattle.psx_cpu.specs.Processor.{Processor, Core, Trap}
+use Rattle.psx_cpu.specs.Processor.{Processor, Trap}
 use Rattle.psx_cpu.specs.Exceptions.{enter, cause_of}
 use Rattle.psx_board.specs.Entries as board
 use Rattle.abs_kernel.specs.Cause.{Entry, entry_of, entrance, by_syscall, number}
@@ -42,4 +42,4 @@ entry-is count line p trap m =
     let g = entrance-same trap.code p.context.in_slot (epc_of p.context) (nat_eq trap.code 8) refl in
     ap (λ (x : Entrance). E count (cause_of trap.code p.context.in_slot + (if line then 2 ^ 10 else 0)) (epc_of p.context) x (board.number x trap.code (settle p.context).regs)) g
     ∙ ap (λ (n : ℕ). E count (cause_of trap.code p.context.in_slot + (if line then 2 ^ 10 else 0)) (epc_of p.context) (entrance trap.code p.context.in_slot (epc_of p.context)) n)
-      (number-same (entrance trap.code p.context.in_slot (epc_of p.context)) trap.code p)
+    (number-same (entrance trap.code p.context.in_slot (epc_of p.context)) trap.code p)

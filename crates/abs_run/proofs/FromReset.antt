@@ -1,29 +1,26 @@
 -- The run from reset up to the first return, or up to the budget before it.
 use Rattle.std.proofs.Common.{◌≡◌, ℕ, zero, suc, ◌+◌, ◌^◌, ◌<◌, ◌≤◌, ◌⊎◌, inl, inr, Bool, true, false, List, [], ◌∷◌, refl, sym, ap, subst, ◌∙◌, arith}
-use Rattle.std.specs.Prelude.{if◌then◌else◌, nat_eq}
+use Rattle.std.specs.Prelude.{nat_eq}
 use Rattle.std.proofs.lemmas.Bool.{and_parts}
 use Rattle.psx_base.specs.declared.stop.Stop.TheVariants.{Budget}
 use Rattle.psx_base.specs.declared.stop.Sizes.{Sizes}
-use Rattle.psx_base.specs.Items.{Item, B, S, R}
-use Rattle.psx_base.proofs.Ranges.{end_of-below}
+use Rattle.psx_base.specs.Items.{B, S, R}
 use Rattle.psx_base.specs.Addresses.{user}
 use Rattle.psx_sched.specs.declared.schedule.Entry.{Entry}
 use Rattle.psx_exe.specs.declared.exe.Exe.{Exe}
-use Rattle.psx_exe.specs.Placed.{stack_top}
 use Rattle.psx_exe.proofs.Placing.{safe}
-use Rattle.psx_cpu.specs.Processor.{Core}
 use Rattle.psx_cpu.specs.Step.{Move, Goes, Reads, Leaves, step}
-use Rattle.psx_ports.specs.History.{Given, History, Read, then_event, start_answer, answer}
+use Rattle.psx_ports.specs.History.{Given, Read, start_answer}
 use Rattle.psx_board.specs.Machine.{Machine, given, start}
 use Rattle.psx_board.specs.Delivery.{delivered}
 use Rattle.psx_board.specs.Entries.{return}
-use Rattle.psx_board.specs.Turn.{Turn, On, bus_of, moved, accessed, shown, by_move, stepped}
-use Rattle.psx_board.specs.Run.{Outcome, run, then_run, behind, ended}
+use Rattle.psx_board.specs.Turn.{Turn, On, bus_of, moved, accessed, shown, by_move}
+use Rattle.psx_board.specs.Run.{Outcome, run, then_run, behind}
 use Rattle.kern_layout.specs.Start.{SizesFit}
 use Rattle.kern_layout.specs.Stands.{Stands, SameUser}
 use Rattle.abs_run.specs.Accepted.{IsAccepted, AreBytes, opening, program_memory}
 use Rattle.abs_run.specs.InKernel.{side_of}
-use Rattle.abs_run.specs.Serves.{Boots, BootMakes, is_start_port}
+use Rattle.abs_run.specs.Serves.{Boots, BootMakes}
 use Rattle.abs_run.specs.Invariant.{accesses_of, OnlyStartReads}
 use Rattle.abs_run.proofs.Answers.{GivenFits, if-small}
 use Rattle.abs_run.proofs.Delivered.{entries-fit, Arrives, MachineFits, delivers, delivered-fits, bus-small}
@@ -123,13 +120,16 @@ module _ (rom : List ℕ) (exe : Exe) (sizes : Sizes) where
     on-move zero n (Leaves next) is rest b =
         let after = record (moved d next) { began = true } in
         subst (λ (t : Turn). BootRun 1 (suc n) m (then_run t (run n))) (ap (λ (x : Bool). On after (return d.history.now x next ∷ []) []) (sym h.began))
-        (inr (omega arith, record {
-          next = after;
-          left = n;
-          is = refl;
-          counted = counted;
-          started = record { stands = b; began = refl; given = same_given; reads = still; fits = record { history = record { given = fit.history.given; bytes = fit.history.bytes }; waiting = fit.waiting } };
-        }))
+        (inr (
+          omega arith,
+          record {
+            next = after;
+            left = n;
+            is = refl;
+            counted = counted;
+            started = record { stands = b; began = refl; given = same_given; reads = still; fits = record { history = record { given = fit.history.given; bytes = fit.history.bytes }; waiting = fit.waiting } };
+          },
+        ))
     on-move _ n _ is rest b = absurd b
 
   boot_run : (k n : ℕ) → Rest k n

@@ -1,15 +1,14 @@
 -- From steps to lists of answers.
-use Rattle.std.proofs.Common.{◌≡◌, ◌≢◌, ℕ, zero, suc, ◌+◌, ◌*◌, ◌^◌, ◌<◌, Bool, List, [], ◌∷◌, refl, sym, ap, subst, ◌∙◌, arith}
+use Rattle.std.proofs.Common.{◌≡◌, ℕ, zero, suc, ◌+◌, ◌*◌, ◌^◌, ◌<◌, Bool, List, [], ◌∷◌, refl, sym, ap, subst, arith}
 use Rattle.std.specs.Prelude.{if◌then◌else◌, nat_eq, nat_le, ◌&&◌, true, false, Option, Some, None}
 use Rattle.psx_base.specs.declared.stop.Stop.{Stop}
 use Rattle.psx_base.specs.Memory.{Memory}
 use Rattle.psx_base.specs.KernelState.{KernelState}
-use Rattle.psx_cpu.specs.Processor.{Bus}
 use Rattle.psx_base.specs.declared.ports.TheConstants.{CONSOLE_STATUS, CONSOLE_DATA, HALT, HALT_A, HALT_B, HALT_C}
 use Rattle.psx_cpu.specs.Step.{Move, Goes, Reads, Writes, Enters, Leaves, Stops, step}
 use Rattle.psx_ports.specs.HaltCodes.{halt_stop}
 use Rattle.abs_kernel.specs.Stay.{Stay, Return, Halt, Ask, Tell, Write, Touch}
-use Rattle.abs_kernel.specs.Played.{Access, Asked, Told, Written, End, Returned, Halted, Short, played}
+use Rattle.abs_kernel.specs.Played.{Access, Asked, Told, Written, End, Returned, Halted, played}
 use Rattle.abs_kernel.specs.Touched.{touched}
 use Rattle.abs_run.specs.InKernel.{InKernel, Sign, Nothing, PortRead, PortWritten, Printed, LeftKernel, EndedRun, Strayed, halt_sign, write_sign, sign_of}
 use Rattle.abs_run.specs.Serves.{Onward, Comes, AsksFor, Tells, Prints, Returns, Ends, Runs}
@@ -78,7 +77,7 @@ module _ (rom : List ℕ) where
         let bus = brings (lines 0) answers in
         more-steps (suc (left + extra)) (suc left + extra) lines k answers accesses end (omega arith)
         (on-sign at left lines (sign_of k (step k.core bus)) (λ next d. comes-listed at left (λ i. lines (suc i)) next d)
-         (sign-takes bus.value k (step k.core bus) (step-takes k.core bus)) (c bus (brought-small (lines 0) answers words)))
+        (sign-takes bus.value k (step k.core bus) (step-takes k.core bus)) (c bus (brought-small (lines 0) answers words)))
 
   abbrev Listed : Stay → Type 0
   Listed stay = (bound : ℕ) (k : InKernel) → Runs rom stay bound k → ServesLists rom stay bound k
@@ -104,10 +103,12 @@ module _ (rom : List ℕ) where
     where
       reads : Last (AsksFor port (λ v left. Runs rom (next v) (left + 128))) (128 * (1 + touched (next value) answers)) (value ∷ answers) (Asked port value ∷ (played (next value) answers).accesses) (played (next value) answers).end words
       reads left ls (PortRead to at v) takes h =
-          let p = played (next value) answers in
-          (p.accesses, ap (λ (x : ℕ). Asked x value ∷ p.accesses) (sym h.0),
-           more-steps (left + 128 + 128 * touched (next value) answers) (left + 128 * (1 + touched (next value) answers)) (λ i. ls (suc i)) to answers p.accesses p.end (omega arith)
-           (rest value (left + 128) to (subst (λ (x : ℕ). Runs rom (next x) (left + 128) to) takes h.1) (λ i. ls (suc i)) answers words.1 enough))
+          let p = played (next value) answers in (
+            p.accesses,
+            ap (λ (x : ℕ). Asked x value ∷ p.accesses) (sym h.0),
+            more-steps (left + 128 + 128 * touched (next value) answers) (left + 128 * (1 + touched (next value) answers)) (λ i. ls (suc i)) to answers p.accesses p.end (omega arith)
+                (rest value (left + 128) to (subst (λ (x : ℕ). Runs rom (next x) (left + 128) to) takes h.1) (λ i. ls (suc i)) answers words.1 enough),
+          )
       reads left ls _ takes h = absurd h
 
   tell-listed : (port value : ℕ) (next : Stay) → Listed next → Listed (Tell port value next)
@@ -116,10 +117,12 @@ module _ (rom : List ℕ) where
     where
       writes : Last (Tells port value (λ left. Runs rom next (left + 128))) (128 * (1 + touched next answers)) answers (Told port value ∷ (played next answers).accesses) (played next answers).end words
       writes left ls (PortWritten to at put) takes h =
-          let p = played next answers in
-          (p.accesses, (λ i. Told (sym h.0 i) (sym h.1 i) ∷ p.accesses),
-           more-steps (left + 128 + 128 * touched next answers) (left + 128 * (1 + touched next answers)) (λ i. ls (suc i)) to answers p.accesses p.end (omega arith)
-           (rest (left + 128) to h.2 (λ i. ls (suc i)) answers words enough))
+          let p = played next answers in (
+            p.accesses,
+            (λ i. Told (sym h.0 i) (sym h.1 i) ∷ p.accesses),
+            more-steps (left + 128 + 128 * touched next answers) (left + 128 * (1 + touched next answers)) (λ i. ls (suc i)) to answers p.accesses p.end (omega arith)
+                (rest (left + 128) to h.2 (λ i. ls (suc i)) answers words enough),
+          )
       writes left ls _ takes h = absurd h
 
   write-listed : (byte : ℕ) (next : Stay) → Listed next → Listed (Write byte next)
@@ -128,10 +131,12 @@ module _ (rom : List ℕ) where
     where
       prints : Last (Prints byte (λ left. Runs rom next (left + 128))) (128 * (1 + touched next answers)) answers (Written byte ∷ (played next answers).accesses) (played next answers).end words
       prints left ls (Printed to put) takes h =
-          let p = played next answers in
-          (p.accesses, ap (λ (x : ℕ). Written x ∷ p.accesses) (sym h.0),
-           more-steps (left + 128 + 128 * touched next answers) (left + 128 * (1 + touched next answers)) (λ i. ls (suc i)) to answers p.accesses p.end (omega arith)
-           (rest (left + 128) to h.1 (λ i. ls (suc i)) answers words enough))
+          let p = played next answers in (
+            p.accesses,
+            ap (λ (x : ℕ). Written x ∷ p.accesses) (sym h.0),
+            more-steps (left + 128 + 128 * touched next answers) (left + 128 * (1 + touched next answers)) (λ i. ls (suc i)) to answers p.accesses p.end (omega arith)
+                (rest (left + 128) to h.1 (λ i. ls (suc i)) answers words enough),
+          )
       prints left ls _ takes h = absurd h
 
   listed : (stay : Stay) → Listed stay

@@ -13,8 +13,8 @@ use Rattle.psx_cpu.specs.Processor.{Core, Bus, Trap}
 use Rattle.psx_cpu.specs.DataAccess.{data_address, read_word}
 use Rattle.psx_cpu.specs.Traps.{DataUse, data_use, is_aligned, own_trap}
 use Rattle.psx_cpu.specs.Exceptions.{takes_interrupt}
-use Rattle.psx_cpu.specs.Guard.{is_branch, is_protected, guard_data, guard_instruction, guard_word, guard}
-use Rattle.psx_cpu.specs.Step.{Move, Goes, Reads, Writes, Enters, Leaves, Stops, entered, after, executed, performed, passed, step, port_read}
+use Rattle.psx_cpu.specs.Guard.{is_branch, is_protected, guard_data, guard_word}
+use Rattle.psx_cpu.specs.Step.{Move, Reads, Stops, entered, executed, performed, passed, step, port_read}
 use Rattle.psx_cpu.proofs.Moves.{step-all, passed-all}
 use Rattle.psx_ports.specs.History.{History, start_answer, answer}
 use Rattle.psx_board.specs.Machine.{Machine}
@@ -100,6 +100,7 @@ start-answered h at s = by_port (nat_eq at START_PC) (nat_eq at START_GP) (nat_e
   where
     is : (p : ℕ) → nat_eq at p ≡ true → answer h p ≡ start_answer h.given p 0 → answer h at ≡ start_answer h.given at 0
     is p e f = subst (λ (q : ℕ). answer h q ≡ start_answer h.given q 0) (sym (eqb-true at p e)) f
+
     by_port : (a b c d e : Bool) → nat_eq at START_PC ≡ a → nat_eq at START_GP ≡ b → nat_eq at START_SP ≡ c → nat_eq at START_THREADS ≡ d → nat_eq at START_EVENTS ≡ e
         → (a || (b || (c || (d || e)))) ≡ true → answer h at ≡ start_answer h.given at 0
     by_port true b c d e i j k l m t = is START_PC i refl

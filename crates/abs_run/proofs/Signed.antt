@@ -1,5 +1,5 @@
 -- What a step of the processor shows is what the board's step makes of it.
-use Rattle.std.proofs.Common.{◌≡◌, ◌≢◌, ℕ, zero, suc, ◌+◌, ◌%◌, ◌^◌, ◌≤◌, Bool, true, false, List, [], ◌∷◌, Option, Some, None, refl, sym, ap, subst, ◌∙◌, arith}
+use Rattle.std.proofs.Common.{◌≡◌, ◌≢◌, ℕ, zero, suc, ◌+◌, ◌%◌, ◌^◌, Bool, true, false, List, [], ◌∷◌, Option, Some, None, refl, sym, ap, subst, ◌∙◌, arith}
 use Rattle.std.specs.Prelude.{if◌then◌else◌, nat_eq, nat_le, ◌&&◌}
 use Rattle.std.proofs.lemmas.Bool.{eqb-true}
 use Rattle.psx_base.specs.declared.ports.TheConstants.{CONSOLE_STATUS, CONSOLE_DATA, HALT, HALT_A, HALT_B, HALT_C}
@@ -9,15 +9,14 @@ use Rattle.psx_base.specs.Items.{Item, R, W, X}
 use Rattle.psx_cpu.specs.Processor.{Core}
 use Rattle.psx_cpu.specs.Step.{Move, Goes, Reads, Writes, Enters, Leaves, Stops}
 use Rattle.psx_ports.specs.declared.PortDid.{PortDid}
-use Rattle.psx_ports.specs.declared.PortDid.TheVariants.{Quiet, Tty, Halt}
+use Rattle.psx_ports.specs.declared.PortDid.TheVariants.{Quiet, Tty}
 use Rattle.psx_ports.specs.HaltCodes.{halt_stop}
-use Rattle.psx_ports.specs.History.{History, Event, Read, Write, then_event, last_written, halted}
+use Rattle.psx_ports.specs.History.{History, Read, Write, then_event, last_written, halted}
 use Rattle.psx_board.specs.Machine.{Machine}
 use Rattle.psx_board.specs.Entries.{return}
 use Rattle.psx_board.specs.Turn.{Turn, On, Ends, moved, accessed, shown, write_shown, after_write, by_move}
 use Rattle.abs_run.specs.InKernel.{InKernel, in_kernel, Sign, Nothing, PortRead, PortWritten, Printed, LeftKernel, EndedRun, Strayed, halt_sign, write_sign, sign_of}
 use Rattle.abs_run.specs.Invariant.{Passes, accesses_of}
-use Rattle.abs_run.proofs.Answers.{HistoryFits}
 use Rattle.abs_run.proofs.Delivered.{MachineFits}
 
 -- a machine after a finished step from d, in which the history became h
@@ -129,10 +128,12 @@ module _ (d : Machine) (began : d.began ≡ true) where
     other-signed : (at : ℕ) → nat_eq at HALT_A ≡ false → nat_eq at HALT_B ≡ false → nat_eq at HALT_C ≡ false → (nat_le CONSOLE_STATUS at && nat_le at HALT) ≡ false → Signed d (PortWritten (in_kernel k d.history) at value) (wrote at Quiet)
     other-signed at a b c r =
         let w : write_shown d.began d.history.now at value ≡ W d.history.now at value ∷ [] = ap (λ (x : Bool). if x then [] else shown d.began (W d.history.now at value)) r ∙ shown-true (W d.history.now at value) in
-        let h = d.history in
-        (went at, ap (λ (items : List Item). On (went at) items []) w,
-         (λ i. record { core = k; a = if a i then value else last_written h.events HALT_A; b = if b i then value else last_written h.events HALT_B; c = if c i then value else last_written h.events HALT_C }),
-         after-written k at value)
+        let h = d.history in (
+          went at,
+          ap (λ (items : List Item). On (went at) items []) w,
+          (λ i. record { core = k; a = if a i then value else last_written h.events HALT_A; b = if b i then value else last_written h.events HALT_B; c = if c i then value else last_written h.events HALT_C }),
+          after-written k at value,
+        )
 
     write-signed : (at : ℕ) → Signed d (write_sign (in_kernel k d.history) at value) (by_move d (Writes k at value))
     write-signed at =
@@ -150,10 +151,15 @@ module _ (d : Machine) (began : d.began ≡ true) where
       (moved (accessed d (Read d.history.now at)) next, ap (λ (items : List Item). On (moved (accessed d (Read d.history.now at)) next) items []) (shown-true (R d.history.now at value)), refl, after-read next at)
   signed (Writes next at value) = write-signed next value at
   signed (Enters next code) = tt
-  signed (Leaves next) =
-      (record (moved d next) { began = true },
-       ap (λ (b : Bool). On (record (moved d next) { began = true }) (return d.history.now b next ∷ []) []) began,
-       refl,
-       record { passes = record { given = refl; accesses = refl; now = omega arith }; counted = refl; began = refl;
-                fits = λ f. record { history = record { given = f.history.given; bytes = f.history.bytes }; waiting = f.waiting } })
+  signed (Leaves next) = (
+    record (moved d next) { began = true },
+    ap (λ (b : Bool). On (record (moved d next) { began = true }) (return d.history.now b next ∷ []) []) began,
+    refl,
+    record {
+      passes = record { given = refl; accesses = refl; now = omega arith };
+      counted = refl;
+      began = refl;
+      fits = λ f. record { history = record { given = f.history.given; bytes = f.history.bytes }; waiting = f.waiting };
+    },
+  )
   signed (Stops stop) = tt

@@ -1,6 +1,6 @@
 -- A processor that stands for a state stands, after a step of user code, for the state after it: the kernel's memory stays.
-use Rattle.std.proofs.Common.{◌≡◌, ℕ, ◌+◌, ◌*◌, ◌%◌, ◌^◌, ◌<◌, ◌≤◌, Bool, true, false, List, length, refl, sym, ap, subst, ◌∙◌, arith}
-use Rattle.std.specs.Prelude.{if◌then◌else◌, nat_eq, nat_le, nat_lt, ◌&&◌, ◌||◌, [], ◌∷◌}
+use Rattle.std.proofs.Common.{◌≡◌, ℕ, ◌+◌, ◌*◌, ◌%◌, ◌^◌, ◌<◌, Bool, true, false, List, refl, sym, ap, ◌∙◌, arith}
+use Rattle.std.specs.Prelude.{if◌then◌else◌, nat_eq, nat_le, nat_lt, ◌&&◌, [], ◌∷◌}
 use Rattle.std.specs.List.{list_any}
 use Rattle.std.proofs.lemmas.Bool.Decides.{nat_tests}
 use Rattle.kern_layout.specs.declared.ranges.Range.{Range}
@@ -10,13 +10,13 @@ use Rattle.psx_base.specs.Context.{Context}
 use Rattle.psx_base.specs.KernelState.{KernelState}
 use Rattle.psx_cpu.specs.Processor.{Processor, Core}
 use Rattle.psx_cpu.specs.Exceptions.{takes_interrupt}
-use Rattle.kern_layout.specs.Reads.{Reads, frame_at}
+use Rattle.kern_layout.specs.Reads.{Reads}
 use Rattle.kern_layout.specs.Valid.{Valid}
-use Rattle.kern_layout.specs.Stands.{Side, Stands, is_fixed, fixed_ranges, user_sr}
+use Rattle.kern_layout.specs.Stands.{Stands, is_fixed, fixed_ranges, user_sr}
 use Rattle.kern_layout.proofs.Written.{reads_free}
 use Rattle.abs_kernel.specs.UserLaws.{stepped}
 use Rattle.abs_run.specs.InKernel.{side_of}
-use Rattle.abs_run.proofs.UserMemory.{shared, kernel-not_shared, Agrees}
+use Rattle.abs_run.proofs.UserMemory.{kernel-not_shared, Agrees}
 use Rattle.abs_run.proofs.UserSide.{Continues}
 
 -- ---- the kernel's memory

@@ -1,6 +1,6 @@
 -- Memory at the user's addresses: what is read there and written, in two memories that are the same there.
-use Rattle.std.proofs.Common.{◌≡◌, ℕ, ◌+◌, ◌*◌, ◌/◌, ◌%◌, ◌^◌, ◌<◌, ◌≤◌, Bool, true, false, cond, refl, sym, ap, subst, ◌∙◌, arith}
-use Rattle.std.specs.Prelude.{if◌then◌else◌, ◌||◌, ◌&&◌, nat_eq, nat_le, nat_lt}
+use Rattle.std.proofs.Common.{◌≡◌, ℕ, ◌+◌, ◌*◌, ◌/◌, ◌%◌, ◌^◌, ◌<◌, Bool, true, false, cond, refl, sym, ap, subst, ◌∙◌, arith}
+use Rattle.std.specs.Prelude.{if◌then◌else◌, ◌||◌, ◌&&◌, nat_eq}
 use Rattle.std.proofs.lemmas.Bool.{false≢true}
 use Rattle.psx_base.specs.Addresses.{top, low, is_mirrored, place, user, user_main, scratchpad}
 use Rattle.psx_base.specs.PortAddresses.{port}

@@ -1,13 +1,12 @@
 -- A step of the processor on the user side is a step of user code, where the memory is the same at the user's addresses and the gates hold SYSCALL.
-use Rattle.std.proofs.Common.{◌≡◌, ℕ, ◌+◌, ◌%◌, Bool, true, false, Option, Some, None, refl, sym, ap, subst, ◌∙◌, arith}
-use Rattle.std.specs.Prelude.{if◌then◌else◌, ◌||◌, ◌&&◌, not, is_some, nat_eq}
+use Rattle.std.proofs.Common.{◌≡◌, ℕ, ◌%◌, Bool, true, false, Option, Some, None, refl, sym, ap, subst, ◌∙◌, arith}
+use Rattle.std.specs.Prelude.{if◌then◌else◌, ◌||◌, ◌&&◌, is_some, nat_eq}
 use Rattle.std.proofs.lemmas.Bool.{false≢true}
 use Rattle.std.proofs.lemmas.Bool.Decides.{nat_tests}
 use Rattle.psx_ins.specs.declared.reg.Reg.{Reg}
 use Rattle.psx_ins.specs.declared.ins.Ins.{Ins}
 use Rattle.psx_ins.specs.declared.ins.Ins.TheVariants.{LB, LH, LWL, LW, LBU, LHU, LWR, SB, SH, SWL, SW, SWR, MFC0, MTC0, RFE}
 use Rattle.psx_ins.specs.Decoding.{instruction_of}
-use Rattle.psx_base.specs.declared.stop.Stop.{Stop}
 use Rattle.psx_base.specs.Addresses.{place, user, gate_of}
 use Rattle.psx_base.specs.PortAddresses.{port}
 use Rattle.psx_base.specs.Memory.{Memory}
@@ -21,10 +20,10 @@ use Rattle.psx_cpu.specs.Effect.{effect}
 use Rattle.psx_cpu.specs.Traps.{DataUse, data_use, is_aligned, own_trap}
 use Rattle.psx_cpu.specs.Exceptions.{enter, takes_interrupt}
 use Rattle.psx_cpu.specs.Guard.{is_branch, is_protected, guard_data, guard_instruction, guard_word, guard}
-use Rattle.psx_cpu.specs.Step.{Move, Goes, Reads, Writes, Enters, Leaves, Stops, entered, after, executed, performed, passed, step}
+use Rattle.psx_cpu.specs.Step.{Move, Goes, Enters, Stops, entered, after, executed, performed, passed, step}
 use Rattle.psx_cpu.specs.UserStep.{UserMove, Next, Raises, Halts, user_performed, user_step}
 use Rattle.kern_layout.specs.Stands.{SameUser}
-use Rattle.abs_run.proofs.UserMemory.{shared, user-shared, shared-no_port, read_byte-same, read_half-same, read_word-same, read_round-same, load_word-same, Agrees, agrees-none, write_byte-agrees, write_half-agrees, write_word-agrees, write_round-agrees}
+use Rattle.abs_run.proofs.UserMemory.{user-shared, shared-no_port, read_byte-same, read_half-same, read_word-same, read_round-same, load_word-same, Agrees, agrees-none, write_byte-agrees, write_half-agrees, write_word-agrees, write_round-agrees}
 
 -- ---- one instruction
 
@@ -165,8 +164,8 @@ module _ (k : Core) (n : Memory) (bus : Bus) (same : SameUser k.bytes n) where
       if-made (nat_eq (c.pc % 4) 0) _ _ _ _
       (λ a. if-made (false || (user c.pc || is_some (gate_of c.pc))) _ _ _ _
       (λ h. let e = fetched-same (is_some (gate_of c.pc)) h gate (eq_of c.pc 4 a) in
-            subst (λ (w : ℕ). Made (guard_word Stops (entered k) does c false (read_word k.bytes c.pc) (instruction_of (read_word k.bytes c.pc))) (guard_word Halts Raises user_does c false w (instruction_of w))) e
-            (word-made (read_word k.bytes c.pc) (instruction_of (read_word k.bytes c.pc))))
+      subst (λ (w : ℕ). Made (guard_word Stops (entered k) does c false (read_word k.bytes c.pc) (instruction_of (read_word k.bytes c.pc))) (guard_word Halts Raises user_does c false w (instruction_of w))) e
+      (word-made (read_word k.bytes c.pc) (instruction_of (read_word k.bytes c.pc))))
       (λ _. refl))
       (λ _. (refl, refl))
 

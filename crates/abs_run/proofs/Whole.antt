@@ -1,22 +1,25 @@
 -- Whole runs: from reset through the boot code to the program, and on as the kernel machine.
-use Rattle.std.proofs.Common.{◌≡◌, ℕ, ◌+◌, ◌<◌, ◌≤◌, ◌⊎◌, inl, inr, List, [], ◌∷◌, refl, sym, ap, subst, ◌∙◌, arith}
+use Rattle.std.proofs.Common.{◌≡◌, ℕ, ◌⊎◌, inl, inr, List, [], ◌∷◌, sym, ap, subst, ◌∙◌, arith}
 use Rattle.psx_base.specs.declared.stop.Stop.TheVariants.{Budget}
 use Rattle.psx_base.specs.declared.stop.Sizes.{Sizes}
-use Rattle.psx_base.specs.Items.{Entrance, Item, B, S}
+use Rattle.psx_base.specs.declared.ports.TheConstants.{CONSOLE_DATA}
+use Rattle.psx_base.specs.Items.{Entrance, Item, B, E, R, W, X, S}
 use Rattle.psx_base.specs.KernelState.{KernelState}
 use Rattle.psx_sched.specs.declared.schedule.Entry.{Entry}
 use Rattle.psx_exe.specs.declared.exe.Exe.{Exe}
 use Rattle.psx_exe.specs.Placed.{stack_top}
-use Rattle.psx_ports.specs.History.{History}
+use Rattle.psx_ports.specs.History.{History, Read, Write, then_event}
 use Rattle.psx_board.specs.Machine.{Machine, start}
-use Rattle.psx_board.specs.Run.{Outcome, run, behind}
+use Rattle.psx_board.specs.Run.{Outcome, run, board_run}
 use Rattle.kern_layout.specs.Start.{SizesFit}
 use Rattle.kern_layout.proofs.StartValid.{start-valid}
-use Rattle.abs_run.specs.Accepted.{IsAccepted, AreBytes, opening, program_memory}
+use Rattle.abs_run.specs.Accepted.{IsAccepted, opening, program_memory}
 use Rattle.abs_run.specs.Serves.{Serves}
-use Rattle.abs_run.specs.KernelRun.{User, RunsFrom, EndsInBoot, ComesToProgram, KernelRun}
-use Rattle.abs_run.specs.Invariant.{IsInvariant, EachEntry}
-use Rattle.abs_run.specs.RunLaws.{BoardRuns, BootsIn, BoardBoots}
+use Rattle.abs_run.specs.KernelRun.{User, RunsFrom, EndsInBoot, ComesToProgram}
+use Rattle.abs_kernel.specs.Stay.{Stay, Return, Halt, Ask, Tell, Write as Put, Touch}
+use Rattle.abs_kernel.specs.KernelStep.{stay_of}
+use Rattle.abs_run.specs.Invariant.{ReturnsTo, IsInvariant, EachEntry}
+use Rattle.abs_run.specs.RunLaws.{BoardRuns, BootsIn, BoardBoots, always, EveryRun}
 use Rattle.abs_run.proofs.Counts.{run-rises}
 use Rattle.abs_run.proofs.Composition.{AtUser, each_run}
 use Rattle.abs_run.proofs.FromReset.{Started, BootRun, from_reset}
@@ -70,3 +73,35 @@ board_runs covers keeps shows rom serves inv exe sizes schedule budget acc fit b
   counts = run-rises budget (start rom exe sizes schedule);
   comes = comes covers keeps shows rom serves inv exe sizes acc fit schedule budget _ (from_reset rom exe sizes serves.boot_steps budget schedule acc fit bytes (serves.boots exe sizes acc fit)) each;
 }
+
+-- ---- where everything is served
+
+returns-always : (stay : Stay) (h : History) → ReturnsTo (λ s x. Unit {0}) stay h
+returns-always (Return state) h = tt
+returns-always (Halt stop memory) h = tt
+returns-always (Ask port next) h = λ now value passes. returns-always (next value) (then_event now (Read now.now port))
+returns-always (Tell port value next) h = λ now passes. returns-always next (then_event now (Write now.now port value))
+returns-always (Put byte next) h = λ now value passes low. returns-always next (then_event now (Write now.now CONSOLE_DATA value))
+returns-always (Touch bytes next) h = returns-always next h
+
+always-invariant : IsInvariant always (λ s h. Unit {0}) (λ gate number. Unit {0})
+always-invariant = record {
+  begins = λ exe sizes h acc fit given reads. tt;
+  time = λ s h later k passes. tt;
+  user = λ s h c m v k e. tt;
+  stay = λ s h trap v k e c. returns-always (stay_of s trap.code) h;
+  covered = λ s h trap v k e sh. tt;
+}
+
+each-always : (items : List Item) → EachEntry (λ gate number. Unit {0}) items
+each-always [] = tt
+each-always (E count cause epc gate number ∷ rest) = (tt, each-always rest)
+each-always (B count ∷ rest) = each-always rest
+each-always (R count at value ∷ rest) = each-always rest
+each-always (W count at value ∷ rest) = each-always rest
+each-always (X count pc sr regs ∷ rest) = each-always rest
+each-always (S count stop ∷ rest) = each-always rest
+
+pub every_run : EveryRun
+every_run rom serves exe sizes schedule budget acc fit bytes =
+    board_runs always (λ s h. Unit {0}) (λ gate number. Unit {0}) rom serves always-invariant exe sizes schedule budget acc fit bytes (each-always (board_run rom exe sizes schedule budget).items)

@@ -1,5 +1,5 @@
 -- What a run is given, and the state in which its program begins.
-use Rattle.std.specs.Prelude.{ℕ, ◌^◌, ◌<◌, List, All}
+use Rattle.std.specs.Prelude.{◌^◌, ◌<◌, List, All}
 use Rattle.psx_base.specs.declared.stop.Sizes.{Sizes}
 use Rattle.psx_base.specs.Memory.{Memory, no_bytes}
 use Rattle.psx_base.specs.KernelState.{KernelState}

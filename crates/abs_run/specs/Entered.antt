@@ -1,11 +1,11 @@
 -- Entries into the kernel out of a state of the user side.
-use Rattle.std.specs.Prelude.{◌≡◌, ◌⊎◌, ℕ, zero, suc, ◌+◌, ◌^◌, Bool, true, None, ◌&&◌, ◌||◌, nat_eq, if◌then◌else◌}
+use Rattle.std.specs.Prelude.{◌≡◌, ◌⊎◌, ℕ, zero, suc, ◌+◌, ◌^◌, Bool, true, None, ◌||◌, nat_eq, if◌then◌else◌}
 use Rattle.psx_base.specs.Context.{Context}
 use Rattle.psx_base.specs.Memory.{Memory}
 use Rattle.psx_base.specs.Items.{Entrance, ByA, ByB, ByC, BySyscall, ByInterrupt, ByDone, ByBack, ByTrap}
 use Rattle.psx_base.specs.KernelState.{KernelState}
 use Rattle.psx_cpu.specs.Processor.{Trap}
-use Rattle.psx_cpu.specs.UserStep.{UserMove, Next, Raises, Halts, user_step}
+use Rattle.psx_cpu.specs.UserStep.{UserMove, Next, Raises, user_step}
 use Rattle.abs_kernel.specs.Cause.{Entry, entry_of}
 use Rattle.abs_kernel.specs.UserLaws.{stepped}
 

@@ -19,7 +19,7 @@ use Rattle.abs_kernel.specs.Stay as Stays
 use Rattle.abs_kernel.specs.KernelStep.{stay_of}
 use Rattle.abs_kernel.specs.UserLaws.{stepped}
 use Rattle.abs_run.specs.Accepted.{IsAccepted, opening}
-use Rattle.abs_run.specs.Entered.{coming, interrupt, MayEnter}
+use Rattle.abs_run.specs.Entered.{coming, interrupt}
 use Rattle.abs_run.specs.Serves.{is_start_port}
 
 -- ---- histories

@@ -11,7 +11,7 @@ use Rattle.psx_ports.specs.History.{History}
 use Rattle.psx_board.specs.Run.{board_run}
 use Rattle.kern_layout.specs.Start.{SizesFit}
 use Rattle.kern_layout.specs.Stands.{SameUser}
-use Rattle.abs_run.specs.Accepted.{IsAccepted, AreBytes, program_memory}
+use Rattle.abs_run.specs.Accepted.{IsAccepted, AreBytes}
 use Rattle.abs_kernel.specs.Stay.{Stay}
 use Rattle.abs_run.specs.InKernel.{InKernel}
 use Rattle.abs_run.specs.Serves.{Runs, Serves}
@@ -60,3 +60,14 @@ ItemsDetermine =
 -- Words that make a stay step by step make it with each list of answers, in as many steps as the bound and 128 for each that it touches.
 abbrev pub ListsAreServed : Type 0
 ListsAreServed = (rom : List ℕ) (stay : Stay) (bound : ℕ) (k : InKernel) → Runs rom stay bound k → ServesLists rom stay bound k
+
+-- ---- where everything is served
+
+abbrev pub always : KernelState → ℕ → Type 0
+always s code = Unit {0}
+
+-- Where a ROM serves every entry, each run of the board is a kernel run of its program.
+abbrev pub EveryRun : Type 0
+EveryRun =
+    (rom : List ℕ) → Serves always rom → (exe : Exe) (sizes : Sizes) (schedule : List Entry) (budget : ℕ) → IsAccepted exe → SizesFit sizes → AreBytes schedule
+    → let o = board_run rom exe sizes schedule budget in KernelRun exe sizes o.items o.tty o.last.core.bytes

@@ -1,29 +1,11 @@
-//! x
+//! The run of the written kernel machine, and the law that leads to it from a ROM that serves: each run of the board, with any program, schedule, sizes and budget,
+//! is such a run. Its definitions are `specs/Serves.antt` (what is asked of a ROM) and `specs/KernelRun.antt` (which traces, console bytes and memories the machine has).
+//! The image's crate is to show that its ROM serves, and the top call's promise is to follow by these laws.
 #![tactic(auto)]
 
-ghost use Rattle.std.specs.Prelude.{◌≡◌, ℕ};
-ghost use Rattle.abs_kernel.specs.Stay.{Stay};
-ghost use Rattle.psx_base.specs.KernelState.{KernelState};
-ghost use Rattle.psx_base.specs.Items.{Entrance};
-ghost use Rattle.psx_ports.specs.History.{History};
-ghost use Rattle.abs_run.specs.RunLaws.{BoardRuns, BoardBoots};
+pub mod coverage;
+pub mod laws;
+#[cfg(test)]
+mod tests;
 
-/// What a ROM serves.
-pub trait Coverage {
-    /// which entries
-    ghost covers: { KernelState → ℕ → Type 0 };
-    /// invariant
-    ghost keeps: { KernelState → History → Type 0 };
-    /// shows
-    ghost shows: { Entrance → ℕ → Type 0 };
-}
-
-/// law
-pub fn board_runs<C: Coverage>()
-    ensures { BoardRuns C.covers C.keeps C.shows }
-{}
-
-/// law
-pub fn board_boots<C: Coverage>()
-    ensures { BoardBoots C.covers }
-{}
+pub use coverage::{Coverage, Everything};
