@@ -1,7 +1,5 @@
 -- From steps and stays that are served to whole runs, by induction on the budget.
-use Rattle.std.proofs.Common.{◌≡◌, ℕ, zero, suc, ◌+◌, ◌*◌, ◌<◌, Bool, true, false, List, [], ◌∷◌, ◌++◌, refl, sym, ap, subst, ◌∙◌, inl, inr, ◌⊎◌, append-nil, append_assoc, arith}
-use Rattle.psx_base.specs.declared.ports.TheConstants.{CONSOLE_DATA}
-use Rattle.psx_base.specs.declared.stop.Stop.{Stop}
+use Rattle.std.proofs.Common.{◌≡◌, ℕ, zero, suc, ◌+◌, Bool, true, false, List, [], ◌∷◌, refl, sym, ap, subst, ◌∙◌, inl, inr, ◌⊎◌, arith}
 use Rattle.psx_base.specs.Memory.{Memory}
 use Rattle.psx_base.specs.Context.{Context}
 use Rattle.psx_base.specs.Items.{Entrance, Item, E, S}
@@ -10,241 +8,44 @@ use Rattle.psx_cpu.specs.Processor.{Core, Bus, Trap}
 use Rattle.psx_cpu.specs.Exceptions.{enter, takes_interrupt}
 use Rattle.psx_cpu.specs.Step.{Move, Goes, Enters, Stops, entered, step}
 use Rattle.psx_cpu.specs.UserStep.{UserMove, Next, Raises, Halts, user_step}
-use Rattle.psx_ports.specs.History.{History, Read, Write, then_event, line}
+use Rattle.psx_ports.specs.History.{History, line}
 use Rattle.psx_board.specs.Machine.{Machine}
 use Rattle.psx_board.specs.Delivery.{delivered}
 use Rattle.psx_board.specs.Entries.{entry}
 use Rattle.psx_board.specs.Turn.{Turn, On, bus_of, moved, shown, by_move, stepped}
 use Rattle.psx_board.specs.Run.{Outcome, run, then_run}
-use Rattle.kern_layout.specs.Valid.{Valid}
-use Rattle.kern_layout.specs.Stands.{Stands, SameUser}
 use Rattle.abs_kernel.specs.Cause.{entry_of}
-use Rattle.abs_kernel.specs.Stay.{Stay, Return, Halt, Ask, Tell, Write as Put, Touch}
 use Rattle.abs_kernel.specs.KernelStep.{stay_of}
-use Rattle.abs_kernel.specs.Played.{Access, Asked, Told, Written, Returned, Halted, ports_of, bytes_of}
-use Rattle.abs_kernel.specs.StayLaws.{EachReturn}
 use Rattle.abs_kernel.specs.UserLaws as UserLaws
 use Rattle.abs_kernel.proofs.Ends.{valid_kept}
 use Rattle.abs_kernel.proofs.UserSteps.{user_step_keeps_valid}
-use Rattle.abs_run.specs.InKernel.{InKernel, in_kernel, side_of, Sign, Nothing, PortRead, PortWritten, Printed, LeftKernel, EndedRun, sign_of}
+use Rattle.abs_run.specs.InWords.{CoreFits, MoveFits}
+use Rattle.abs_run.specs.InKernel.{in_kernel}
 use Rattle.abs_run.specs.Entered.{coming, interrupt, bound_of}
-use Rattle.abs_run.specs.Serves.{Onward, Comes, AsksFor, Tells, Prints, Returns, Ends, Runs, Serves}
-use Rattle.abs_run.specs.KernelRun.{Place, User, Kernel, Does, RunsFrom}
-use Rattle.abs_run.specs.Invariant.{Passes, EntersAt, ReturnsTo, IsInvariant, EachEntry}
+use Rattle.abs_run.specs.Serves.{Serves}
+use Rattle.abs_run.specs.KernelRun.{Place, User, RunsFrom}
+use Rattle.abs_run.specs.Invariant.{EntersAt, IsInvariant, EachEntry}
 use Rattle.abs_run.proofs.UserSide.{UserMade, step-made}
-use Rattle.abs_run.proofs.Delivered.{passes-then, Arrives, MachineFits, delivers, delivered-fits, bus-small, in_kernel-arrived}
+use Rattle.abs_run.proofs.StepWords.{steps_keep_words}
+use Rattle.abs_run.proofs.Delivered.{Arrives, delivers, delivered-fits, bus-small}
 use Rattle.abs_run.proofs.Entering.{item_of, entry-is}
 use Rattle.abs_run.proofs.Counts.{run-zero, run-suc}
-use Rattle.abs_run.proofs.Behind.{Behind, ports-append, bytes-append, behind-asked, behind-told, behind-written, does, is_within}
 use Rattle.abs_run.proofs.Standing.{stands-on, takes-on}
-use Rattle.abs_run.proofs.Signed.{Signed, signed}
+use Rattle.abs_run.proofs.Staying as stay
 
 step-interrupt : (k : Core) (bus : Bus) → takes_interrupt k.processor bus.line ≡ true → step k bus ≡ entered k interrupt
 unfolding step
 step-interrupt k bus h = rw h refl
 
 module _ (covers : KernelState → ℕ → Type 0) (keeps : KernelState → History → Type 0) (shows : Entrance → ℕ → Type 0) (rom : List ℕ) (serves : Serves covers rom) (inv : IsInvariant covers keeps shows) where
-  -- a run is the kernel machine's from a place on, behind these console bytes
   abbrev Holds : Place → List ℕ → Outcome → Type 0
-  Holds place bytes o = EachEntry shows o.items → RunsFrom o.items place (bytes ++ o.tty) o.last.core.bytes
+  Holds place bytes o = stay.Holds covers keeps shows rom serves inv place bytes o
 
-  -- the board at a user moment
-  pub record AtUser (s : KernelState) (m : Machine) : Type 0 where
-    pub stands : Stands (side_of m.core) m.core.bytes s rom
-    pub valid : Valid s
-    pub invariant : keeps s m.history
-    pub began : m.began ≡ true
-    pub fits : MachineFits m
+  abbrev AtUser : KernelState → Machine → Type 0
+  AtUser s m = stay.AtUser covers keeps shows rom serves inv s m
 
-  -- each run from a user moment within fewer steps is the kernel machine's
   abbrev Main : ℕ → Type 0
-  Main n = (j : ℕ) (m : Machine) (s : KernelState) → j < n → AtUser s m → Holds (User s m.history.now) [] (run j m)
-
-  -- ---- stays
-
-  -- the board in a stay, behind these accesses
-  record InStay (s : KernelState) (code : ℕ) (made : List Access) (rest : Stay) (m : Machine) : Type 0 where
-    behind : Behind (stay_of s code) made rest
-    valid : EachReturn Valid rest
-    since : History
-    returns : ReturnsTo keeps rest since
-    passes : Passes since m.history
-    began : m.began ≡ true
-    fits : MachineFits m
-
-  abbrev StayRest : KernelState → ℕ → ℕ → Type 0
-  StayRest s code n = (made : List Access) (rest : Stay) (bound : ℕ) (m : Machine) → InStay s code made rest m → Runs rom rest bound (in_kernel m.core m.history) → Holds (Kernel s code (ports_of made)) (bytes_of made) (run n m)
-
-  change : (items : List Item) (s : KernelState) (code : ℕ) (a b : List Access) (x y : List ℕ) (ram : Memory) → a ≡ b → x ≡ y → RunsFrom items (Kernel s code a) x ram → RunsFrom items (Kernel s code b) y ram
-  change items s code a b x y ram e f h = subst (λ (v : List Access). RunsFrom items (Kernel s code v) y ram) e (subst (λ (v : List ℕ). RunsFrom items (Kernel s code a) v ram) f h)
-
-  module _ (s : KernelState) (code n : ℕ) (main : Main (suc n)) (again : StayRest s code n) (made : List Access) (m : Machine) where
-    abbrev d : Machine
-    d = delivered m
-
-    abbrev Goal : Turn → Type 0
-    Goal t = Holds (Kernel s code (ports_of made)) (bytes_of made) (then_run t (run n))
-
-    until : (rest : Stay) (h : InStay s code made rest m) → Passes h.since d.history
-    until rest h = passes-then h.since m.history d.history h.passes (delivers m h.fits).passes
-
-    fit : (rest : Stay) (h : InStay s code made rest m) → MachineFits d
-    fit rest h = delivered-fits m h.fits
-
-    quiet : (rest : Stay) (k : InKernel) (t : Turn) (bound : ℕ) → InStay s code made rest m → Signed d (Nothing k) t → Runs rom rest bound k → Goal t
-    quiet rest k t bound h (next, is, at, after) runs =
-        subst Goal (sym is)
-        (again made rest bound next
-        (record { behind = h.behind; valid = h.valid; since = h.since; returns = h.returns; passes = passes-then h.since d.history next.history (until rest h) after.passes; began = after.began; fits = after.fits (fit rest h) })
-        (subst (Runs rom rest bound) (sym at) runs))
-
-    asked : (port : ℕ) (rest : ℕ → Stay) (at value : ℕ) (k : InKernel) (t : Turn) (bound : ℕ) → InStay s code made (Ask port rest) m → Signed d (PortRead k at value) t → at ≡ port → Runs rom (rest value) bound k → Goal t
-    asked port rest at value k t bound h (next, is, here, after) e runs =
-        let o = run n next in
-        subst Goal (sym is)
-        (λ each. change o.items s code (ports_of (made ++ Asked port value ∷ [])) (ports_of made ++ Asked at value ∷ []) (bytes_of (made ++ Asked port value ∷ []) ++ o.tty) (bytes_of made ++ o.tty) o.last.core.bytes
-        (ports-append made (Asked port value ∷ []) ∙ ap (λ (p : ℕ). ports_of made ++ Asked p value ∷ []) (sym e))
-        (ap (λ (x : List ℕ). x ++ o.tty) (bytes-append made (Asked port value ∷ []) ∙ append-nil (bytes_of made)))
-        (again (made ++ Asked port value ∷ []) (rest value) bound next
-        (record {
-          behind = behind-asked (stay_of s code) made port value rest h.behind;
-          valid = h.valid value;
-          since = then_event d.history (Read d.history.now port);
-          returns = h.returns d.history value (until (Ask port rest) h);
-          passes = subst (λ (p : ℕ). Passes (then_event d.history (Read d.history.now p)) next.history) e after.passes;
-          began = after.began;
-          fits = after.fits (fit (Ask port rest) h);
-        })
-        (subst (Runs rom (rest value) bound) (sym here) runs) each))
-
-    told : (port value : ℕ) (rest : Stay) (at written : ℕ) (k : InKernel) (t : Turn) (bound : ℕ) → InStay s code made (Tell port value rest) m → Signed d (PortWritten k at written) t → at ≡ port → written ≡ value → Runs rom rest bound k → Goal t
-    told port value rest at written k t bound h (next, is, here, after) e f runs =
-        let o = run n next in
-        subst Goal (sym is)
-        (λ each. change o.items s code (ports_of (made ++ Told port value ∷ [])) (ports_of made ++ Told at written ∷ []) (bytes_of (made ++ Told port value ∷ []) ++ o.tty) (bytes_of made ++ o.tty) o.last.core.bytes
-        (ports-append made (Told port value ∷ []) ∙ (λ i. ports_of made ++ Told (sym e i) (sym f i) ∷ []))
-        (ap (λ (x : List ℕ). x ++ o.tty) (bytes-append made (Told port value ∷ []) ∙ append-nil (bytes_of made)))
-        (again (made ++ Told port value ∷ []) rest bound next
-        (record {
-          behind = behind-told (stay_of s code) made port value rest h.behind;
-          valid = h.valid;
-          since = then_event d.history (Write d.history.now port value);
-          returns = h.returns d.history (until (Tell port value rest) h);
-          passes = subst (λ (v : ℕ). Passes (then_event d.history (Write d.history.now port v)) next.history) f (subst (λ (p : ℕ). Passes (then_event d.history (Write d.history.now p written)) next.history) e after.passes);
-          began = after.began;
-          fits = after.fits (fit (Tell port value rest) h);
-        })
-        (subst (Runs rom rest bound) (sym here) runs) each))
-
-    written : (byte : ℕ) (rest : Stay) (put : ℕ) (k : InKernel) (t : Turn) (bound : ℕ) → InStay s code made (Put byte rest) m → Signed d (Printed k put) t → put ≡ byte → Runs rom rest bound k → Goal t
-    written byte rest put k t bound h (next, value, is, here, low, after) e runs =
-        let o = run n next in
-        subst Goal (sym is)
-        (λ each. change o.items s code (ports_of (made ++ Written byte ∷ [])) (ports_of made) (bytes_of (made ++ Written byte ∷ []) ++ o.tty) (bytes_of made ++ (put ∷ o.tty)) o.last.core.bytes
-        (ports-append made (Written byte ∷ []) ∙ append-nil (ports_of made))
-        (ap (λ (x : List ℕ). x ++ o.tty) (bytes-append made (Written byte ∷ [])) ∙ append_assoc (bytes_of made) (byte ∷ []) o.tty ∙ ap (λ (v : ℕ). bytes_of made ++ (v ∷ o.tty)) (sym e))
-        (again (made ++ Written byte ∷ []) rest bound next
-        (record {
-          behind = behind-written (stay_of s code) made byte rest h.behind;
-          valid = h.valid;
-          since = then_event d.history (Write d.history.now CONSOLE_DATA value);
-          returns = h.returns d.history value (until (Put byte rest) h) (low ∙ e);
-          passes = after.passes;
-          began = after.began;
-          fits = after.fits (fit (Put byte rest) h);
-        })
-        (subst (Runs rom rest bound) (sym here) runs) each))
-
-    returned : (state : KernelState) (core : Core) (t : Turn) → InStay s code made (Return state) m → Signed d (LeftKernel core) t → Stands (side_of core) core.bytes state rom → Goal t
-    returned state core t h (next, is, here, after) stands =
-        let o = run n next in
-        subst Goal (sym is)
-        (λ each. (
-          state,
-          bytes_of made,
-          o.tty,
-          does s code made (Return state) h.behind (bytes_of made) (Returned state) refl refl,
-          record { at = ap (λ (c : Context). c.pc) stands.context; interrupts = stands.sr; registers = ap (λ (c : Context). c.regs) stands.context },
-          refl,
-          subst (λ (c : ℕ). RunsFrom o.items (User state c) o.tty o.last.core.bytes) after.counted
-              (main n next state (omega arith)
-              (record {
-                stands = subst (λ (k : Core). Stands (side_of k) k.bytes state rom) (sym here) stands;
-                valid = h.valid;
-                invariant = inv.time state h.since next.history h.returns (passes-then h.since d.history next.history (until (Return state) h) after.passes);
-                began = after.began;
-                fits = after.fits (fit (Return state) h);
-              }) each),
-        ))
-
-    halted : (stop : Stop) (memory : Memory) (core : Core) (told : Stop) (t : Turn) → InStay s code made (Halt stop memory) m → Signed d (EndedRun core told) t → told ≡ stop → SameUser core.bytes memory → Goal t
-    halted stop memory core told t h (last, is, here, other) e same =
-        subst Goal (sym is)
-        (λ each. inl (
-          other,
-          memory,
-          subst (λ (x : Stop). Does s code (ports_of made) (bytes_of made ++ []) (Halted x memory)) (sym e) (does s code made (Halt stop memory) h.behind (bytes_of made ++ []) (Halted stop memory) (append-nil (bytes_of made)) refl),
-          subst (λ (k : Core). SameUser k.bytes memory) (sym here) same,
-        ))
-
-    -- what the board brings to the step
-    comes : (last : Sign → ℕ → Type 0) (bound : ℕ) → MachineFits m → Comes last bound (in_kernel m.core m.history)
-        → (left : ℕ) × Onward (Comes last left) (λ (x : Sign). last x left) (sign_of (in_kernel d.core d.history) (step d.core (bus_of d)))
-    comes last zero f c = absurd c
-    comes last (suc left) f c =
-        (left, subst (λ (k : InKernel). Onward (Comes last left) (λ (x : Sign). last x left) (sign_of k (step k.core (bus_of d)))) (in_kernel-arrived m.core m.history d.history (delivers m f)) (c (bus_of d) (bus-small d (delivered-fits m f))))
-
-    on-return : (state : KernelState) (left : ℕ) (sign : Sign) (t : Turn) → InStay s code made (Return state) m → Signed d sign t → Onward (Comes (Returns rom state) left) (λ (x : Sign). Returns rom state x left) sign → Goal t
-    on-return state left (Nothing k) t h sg c = quiet (Return state) k t left h sg c
-    on-return state left (LeftKernel core) t h sg c = returned state core t h sg c
-    on-return state left _ t h sg c = absurd c
-
-    on-halt : (stop : Stop) (memory : Memory) (left : ℕ) (sign : Sign) (t : Turn) → InStay s code made (Halt stop memory) m → Signed d sign t → Onward (Comes (Ends stop memory) left) (λ (x : Sign). Ends stop memory x left) sign → Goal t
-    on-halt stop memory left (Nothing k) t h sg c = quiet (Halt stop memory) k t left h sg c
-    on-halt stop memory left (EndedRun core told) t h sg c = halted stop memory core told t h sg c.0 c.1
-    on-halt stop memory left _ t h sg c = absurd c
-
-    abbrev Answers : (ℕ → Stay) → ℕ → ℕ → InKernel → Type 0
-    Answers rest value left = Runs rom (rest value) (left + 128)
-
-    on-ask : (port : ℕ) (rest : ℕ → Stay) (left : ℕ) (sign : Sign) (t : Turn) → InStay s code made (Ask port rest) m → Signed d sign t → Onward (Comes (AsksFor port (Answers rest)) left) (λ (x : Sign). AsksFor port (Answers rest) x left) sign → Goal t
-    on-ask port rest left (Nothing k) t h sg c = quiet (Ask port rest) k t left h sg c
-    on-ask port rest left (PortRead k at value) t h sg c = asked port rest at value k t (left + 128) h sg c.0 c.1
-    on-ask port rest left _ t h sg c = absurd c
-
-    abbrev Onwards : Stay → ℕ → InKernel → Type 0
-    Onwards rest left = Runs rom rest (left + 128)
-
-    on-tell : (port value : ℕ) (rest : Stay) (left : ℕ) (sign : Sign) (t : Turn) → InStay s code made (Tell port value rest) m → Signed d sign t → Onward (Comes (Tells port value (Onwards rest)) left) (λ (x : Sign). Tells port value (Onwards rest) x left) sign → Goal t
-    on-tell port value rest left (Nothing k) t h sg c = quiet (Tell port value rest) k t left h sg c
-    on-tell port value rest left (PortWritten k at put) t h sg c = told port value rest at put k t (left + 128) h sg c.0 c.1 c.2
-    on-tell port value rest left _ t h sg c = absurd c
-
-    on-write : (byte : ℕ) (rest : Stay) (left : ℕ) (sign : Sign) (t : Turn) → InStay s code made (Put byte rest) m → Signed d sign t → Onward (Comes (Prints byte (Onwards rest)) left) (λ (x : Sign). Prints byte (Onwards rest) x left) sign → Goal t
-    on-write byte rest left (Nothing k) t h sg c = quiet (Put byte rest) k t left h sg c
-    on-write byte rest left (Printed k put) t h sg c = written byte rest put k t (left + 128) h sg c.0 c.1
-    on-write byte rest left _ t h sg c = absurd c
-
-    stay_step : (rest : Stay) (bound : ℕ) → InStay s code made rest m → Runs rom rest bound (in_kernel m.core m.history) → Goal (stepped d)
-    stay_step (Return state) bound h r =
-        let c = comes (Returns rom state) bound h.fits r in on-return state c.0 (sign_of (in_kernel d.core d.history) (step d.core (bus_of d))) (stepped d) h (signed d h.began (step d.core (bus_of d))) c.1
-    stay_step (Halt stop memory) bound h r =
-        let c = comes (Ends stop memory) bound h.fits r in on-halt stop memory c.0 (sign_of (in_kernel d.core d.history) (step d.core (bus_of d))) (stepped d) h (signed d h.began (step d.core (bus_of d))) c.1
-    stay_step (Ask port rest) bound h r =
-        let c = comes (AsksFor port (Answers rest)) bound h.fits r in on-ask port rest c.0 (sign_of (in_kernel d.core d.history) (step d.core (bus_of d))) (stepped d) h (signed d h.began (step d.core (bus_of d))) c.1
-    stay_step (Tell port value rest) bound h r =
-        let c = comes (Tells port value (Onwards rest)) bound h.fits r in on-tell port value rest c.0 (sign_of (in_kernel d.core d.history) (step d.core (bus_of d))) (stepped d) h (signed d h.began (step d.core (bus_of d))) c.1
-    stay_step (Put byte rest) bound h r =
-        let c = comes (Prints byte (Onwards rest)) bound h.fits r in on-write byte rest c.0 (sign_of (in_kernel d.core d.history) (step d.core (bus_of d))) (stepped d) h (signed d h.began (step d.core (bus_of d))) c.1
-    stay_step (Touch bytes rest) bound h r =
-        stay_step rest (bound + 128 * bytes) (record { behind = h.behind; valid = h.valid; since = h.since; returns = h.returns; passes = h.passes; began = h.began; fits = h.fits }) r
-
-  stay_run : (n : ℕ) → Main n → (s : KernelState) (code : ℕ) → StayRest s code n
-  stay_run zero main s code made rest bound m h r =
-      subst (Holds (Kernel s code (ports_of made)) (bytes_of made)) (sym (run-zero m)) (λ each. inr (refl, is_within s code made rest h.behind (bytes_of made ++ []) (append-nil (bytes_of made))))
-  stay_run (suc n) main s code made rest bound m h r =
-      subst (Holds (Kernel s code (ports_of made)) (bytes_of made)) (sym (run-suc n m))
-      (stay_step s code n main (stay_run n (λ j x t less. main j x t (omega arith)) s code) made m rest bound h r)
+  Main n = stay.Main covers keeps shows rom serves inv n
 
   -- ---- user code
 
@@ -279,8 +80,8 @@ module _ (covers : KernelState → ℕ → Type 0) (keeps : KernelState → Hist
     abbrev core_after : Trap → Core
     core_after trap = record here.core { processor = enter here.core.processor trap }
 
-    entering : (trap : Trap) (line : Bool) → EntersAt s here.history trap → UserGoal (On (moved here (core_after trap)) (item_of here.history.now line (entry_of s.running.context trap.code) ∷ []) [])
-    entering trap line may each =
+    entering : (trap : Trap) (line : Bool) → EntersAt s here.history trap → CoreFits (core_after trap) → UserGoal (On (moved here (core_after trap)) (item_of here.history.now line (entry_of s.running.context trap.code) ∷ []) [])
+    entering trap line may words each =
         let covered = inv.covered s here.history trap u.valid kept may each.0 in
         let same = now-same in
         let next = moved here (core_after trap) in
@@ -292,7 +93,7 @@ module _ (covers : KernelState → ℕ → Type 0) (keeps : KernelState → Hist
           omega arith,
           may-enter s here.history trap may,
           record { line = line; causes = refl; at = refl; by = refl; named = refl },
-          stay_run n (λ j x t less. main j x t (omega arith)) s trap.code [] (stay_of s trap.code) (bound_of s trap.code) next
+          stay.stay_run covers keeps shows rom serves inv n (λ j x t less. main j x t (omega arith)) s trap.code [] (stay_of s trap.code) (bound_of s trap.code) next
               (record {
                 behind = λ more. refl;
                 valid = valid_kept s trap.code u.valid;
@@ -301,8 +102,9 @@ module _ (covers : KernelState → ℕ → Type 0) (keeps : KernelState → Hist
                 passes = record { given = refl; accesses = refl; now = omega arith };
                 began = u.began;
                 fits = (let f = delivered-fits m u.fits in record { history = record { given = f.history.given; bytes = f.history.bytes }; waiting = f.waiting });
+                words = words;
               })
-              (serves.stays here.core s trap (in_kernel here.core h).a (in_kernel here.core h).b (in_kernel here.core h).c u.valid u.stands (may-enter s here.history trap may) covered)
+              (serves.stays here.core s trap (in_kernel here.core h).a (in_kernel here.core h).b (in_kernel here.core h).c u.valid u.words u.stands (may-enter s here.history trap may) covered)
               each.1,
         )
 
@@ -312,8 +114,8 @@ module _ (covers : KernelState → ℕ → Type 0) (keeps : KernelState → Hist
         ∙ ap (λ (item : Item). On (moved here (core_after trap)) (item ∷ []) []) (entry-is here.history.now (line here.history) here.core.processor trap here.core.bytes)
         ∙ ap (λ (c : Context). On (moved here (core_after trap)) (item_of here.history.now (line here.history) (entry_of c trap.code) ∷ []) []) u.stands.context
 
-    on-user : (move : Move) (step_of : UserMove) → coming s ≡ step_of → UserMade here.core move step_of → UserGoal (by_move here move)
-    on-user (Goes next) (Next c x) e h =
+    on-user : (move : Move) (step_of : UserMove) → MoveFits move → coming s ≡ step_of → UserMade here.core move step_of → UserGoal (by_move here move)
+    on-user (Goes next) (Next c x) w e h =
         let o = run n (moved here next) in
         λ each. more_user o.items s c x m.history.now o.tty o.last.core.bytes e
         (subst (λ (k : ℕ). RunsFrom o.items (User (UserLaws.stepped s c x) k) o.tty o.last.core.bytes) (ap (λ (k : ℕ). k + 1) now-same)
@@ -324,20 +126,24 @@ module _ (covers : KernelState → ℕ → Type 0) (keeps : KernelState → Hist
           invariant = inv.time (UserLaws.stepped s c x) here.history (moved here next).history (inv.user s here.history c x u.valid kept e) (record { given = refl; accesses = refl; now = omega arith });
           began = u.began;
           fits = (let f = delivered-fits m u.fits in record { history = record { given = f.history.given; bytes = f.history.bytes }; waiting = f.waiting });
+          words = w;
         }) each))
-    on-user (Enters next code) (Raises trap) e h =
-        subst UserGoal (sym ((λ i. by_move here (Enters (h.0 i) (h.1 i))) ∙ entry-shown trap)) (entering trap (line here.history) (inl e))
-    on-user (Stops stop) (Halts told) e h =
+    on-user (Enters next code) (Raises trap) w e h =
+        subst UserGoal (sym ((λ i. by_move here (Enters (h.0 i) (h.1 i))) ∙ entry-shown trap)) (entering trap (line here.history) (inl e) (subst CoreFits h.0 w))
+    on-user (Stops stop) (Halts told) w e h =
         let same = now-same in
         λ each. record { steps = 0; state = s; made = refl; counted = omega arith; stops = inl (e ∙ ap Halts (sym h)); silent = refl; memory = u.stands.user }
-    on-user _ _ e h = absurd h
+    on-user _ _ w e h = absurd h
+
+    made-moves : MoveFits (step here.core (bus_of here))
+    made-moves = steps_keep_words here.core (bus_of here) u.words (bus-small here (delivered-fits m u.fits))
 
     by-interrupt : (b : Bool) → takes_interrupt here.core.processor (line here.history) ≡ b → UserGoal (stepped here)
     by-interrupt true e =
         let on = takes-on here.core.processor (line here.history) s.running.interrupts u.stands.sr e in
-        subst UserGoal (sym (ap (by_move here) (step-interrupt here.core (bus_of here) e) ∙ entry-shown interrupt)) (entering interrupt (line here.history) (inr (refl, on.1, on.0)))
+        subst UserGoal (sym (ap (by_move here) (step-interrupt here.core (bus_of here) e) ∙ entry-shown interrupt)) (entering interrupt (line here.history) (inr (refl, on.1, on.0)) (subst MoveFits (step-interrupt here.core (bus_of here) e) made-moves))
     by-interrupt false e =
-        on-user (step here.core (bus_of here)) (coming s) refl
+        on-user (step here.core (bus_of here)) (coming s) made-moves refl
         (subst (λ (c : Context). UserMade here.core (step here.core (bus_of here)) (user_step c s.memory)) u.stands.context
         (step-made here.core s.memory (bus_of here) u.stands.user u.stands.latch e (serves.gates here.core.bytes here.core.processor.context.pc u.stands.code)))
 

@@ -1,4 +1,5 @@
 -- The run from reset up to the first return, or up to the budget before it.
+use Rattle.std.specs.Prelude.{All}
 use Rattle.std.proofs.Common.{◌≡◌, ℕ, zero, suc, ◌+◌, ◌^◌, ◌<◌, ◌≤◌, ◌⊎◌, inl, inr, Bool, true, false, List, [], ◌∷◌, refl, sym, ap, subst, ◌∙◌, arith}
 use Rattle.std.specs.Prelude.{nat_eq}
 use Rattle.std.proofs.lemmas.Bool.{and_parts}
@@ -19,10 +20,12 @@ use Rattle.psx_board.specs.Run.{Outcome, run, then_run, behind}
 use Rattle.kern_layout.specs.Start.{SizesFit}
 use Rattle.kern_layout.specs.Stands.{Stands, SameUser}
 use Rattle.abs_run.specs.Accepted.{IsAccepted, AreBytes, opening, program_memory}
+use Rattle.abs_run.specs.InWords.{CoreFits, MoveFits}
 use Rattle.abs_run.specs.InKernel.{side_of}
 use Rattle.abs_run.specs.Serves.{Boots, BootMakes}
 use Rattle.abs_run.specs.Invariant.{accesses_of, OnlyStartReads}
 use Rattle.abs_run.proofs.Answers.{GivenFits, if-small}
+use Rattle.abs_run.proofs.StepWords.{steps_keep_words, reset-fits}
 use Rattle.abs_run.proofs.Delivered.{entries-fit, Arrives, MachineFits, delivers, delivered-fits, bus-small}
 use Rattle.abs_run.proofs.Counts.{run-zero, run-suc}
 use Rattle.abs_run.proofs.PortAsked.{read-answered, start-answered}
@@ -53,6 +56,7 @@ module _ (rom : List ℕ) (exe : Exe) (sizes : Sizes) where
     given : m.history.given ≡ given exe sizes
     reads : OnlyStartReads (accesses_of m.history.events)
     fits : MachineFits m
+    words : CoreFits m.core
 
   -- and behind the first return
   pub record Started (m : Machine) : Type 0 where
@@ -61,6 +65,7 @@ module _ (rom : List ℕ) (exe : Exe) (sizes : Sizes) where
     pub given : m.history.given ≡ given exe sizes
     pub reads : OnlyStartReads (accesses_of m.history.events)
     pub fits : MachineFits m
+    pub words : CoreFits m.core
 
   -- the budget ends the run in the boot code
   pub record CutOff (m : Machine) (n : ℕ) (o : Outcome) : Type 0 where
@@ -107,17 +112,17 @@ module _ (rom : List ℕ) (exe : Exe) (sizes : Sizes) where
     counted : d.history.now + 1 ≡ m.history.now + 1
     counted = ap (λ (c : ℕ). c + 1) arrived.count
 
-    on-move : (k n : ℕ) (move : Move) → step d.core (bus_of d) ≡ move → Rest k n → BootMakes rom exe sizes k move (Boots rom exe sizes k) → BootRun (suc k) (suc n) m (then_run (by_move d move) (run n))
-    on-move k n (Goes next) is rest b =
+    on-move : (k n : ℕ) (move : Move) → step d.core (bus_of d) ≡ move → MoveFits move → Rest k n → BootMakes rom exe sizes k move (Boots rom exe sizes k) → BootRun (suc k) (suc n) m (then_run (by_move d move) (run n))
+    on-move k n (Goes next) is w rest b =
         later k n m (moved d next) (run n (moved d next)) counted
-        (rest (moved d next) (record { began = h.began; given = same_given; reads = still; fits = record { history = record { given = fit.history.given; bytes = fit.history.bytes }; waiting = fit.waiting } }) b)
-    on-move k n (Reads next at value) is rest b =
+        (rest (moved d next) (record { began = h.began; given = same_given; reads = still; fits = record { history = record { given = fit.history.given; bytes = fit.history.bytes }; waiting = fit.waiting }; words = w }) b)
+    on-move k n (Reads next at value) is w rest b =
         let after = moved (accessed d (Read d.history.now at)) next in
         let v : value ≡ start_answer (given exe sizes) at 0 = read-answered d next at value is ∙ start-answered d.history at b.0 ∙ ap (λ (g : Given). start_answer g at 0) same_given in
         subst (λ (t : Turn). BootRun (suc k) (suc n) m (then_run t (run n))) (ap (λ (x : Bool). On after (shown x (R d.history.now at value)) []) (sym h.began))
         (later k n m after (run n after) counted
-        (rest after (record { began = h.began; given = same_given; reads = (b.0, still); fits = record { history = record { given = fit.history.given; bytes = fit.history.bytes }; waiting = fit.waiting } }) (b.1 v)))
-    on-move zero n (Leaves next) is rest b =
+        (rest after (record { began = h.began; given = same_given; reads = (b.0, still); fits = record { history = record { given = fit.history.given; bytes = fit.history.bytes }; waiting = fit.waiting }; words = w }) (b.1 v)))
+    on-move zero n (Leaves next) is w rest b =
         let after = record (moved d next) { began = true } in
         subst (λ (t : Turn). BootRun 1 (suc n) m (then_run t (run n))) (ap (λ (x : Bool). On after (return d.history.now x next ∷ []) []) (sym h.began))
         (inr (
@@ -127,10 +132,10 @@ module _ (rom : List ℕ) (exe : Exe) (sizes : Sizes) where
             left = n;
             is = refl;
             counted = counted;
-            started = record { stands = b; began = refl; given = same_given; reads = still; fits = record { history = record { given = fit.history.given; bytes = fit.history.bytes }; waiting = fit.waiting } };
+            started = record { stands = b; began = refl; given = same_given; reads = still; fits = record { history = record { given = fit.history.given; bytes = fit.history.bytes }; waiting = fit.waiting }; words = w };
           },
         ))
-    on-move _ n _ is rest b = absurd b
+    on-move _ n _ is w rest b = absurd b
 
   boot_run : (k n : ℕ) → Rest k n
   boot_run zero n m h b = absurd b
@@ -138,10 +143,10 @@ module _ (rom : List ℕ) (exe : Exe) (sizes : Sizes) where
       subst (BootRun (suc k) zero m) (sym (run-zero m)) (inl (omega arith, record { count = m.history.now; counted = omega arith; items = refl; silent = refl; memory = b.0 }))
   boot_run (suc k) (suc n) m h b =
       subst (BootRun (suc k) (suc n) m) (sym (run-suc n m))
-      (on-move m h k n (step (delivered m).core (bus_of (delivered m))) refl (boot_run k n) (b.1 (bus_of (delivered m)) (bus-small (delivered m) (delivered-fits m h.fits))))
+      (on-move m h k n (step (delivered m).core (bus_of (delivered m))) refl (steps_keep_words (delivered m).core (bus_of (delivered m)) h.words (bus-small (delivered m) (delivered-fits m h.fits))) (boot_run k n) (b.1 (bus_of (delivered m)) (bus-small (delivered m) (delivered-fits m h.fits))))
 
   -- each run from reset
-  pub from_reset : (k n : ℕ) (schedule : List Entry) → IsAccepted exe → SizesFit sizes → AreBytes schedule → Boots rom exe sizes k (start rom exe sizes schedule).core
+  pub from_reset : (k n : ℕ) (schedule : List Entry) → All (λ (b : ℕ). b < 2 ^ 8) rom → IsAccepted exe → SizesFit sizes → AreBytes schedule → Boots rom exe sizes k (start rom exe sizes schedule).core
       → BootRun k n (start rom exe sizes schedule) (run n (start rom exe sizes schedule))
-  from_reset k n schedule acc fit bytes b =
-      boot_run k n (start rom exe sizes schedule) (record { began = refl; given = refl; reads = tt; fits = record { history = record { given = given-fits exe sizes acc fit; bytes = tt }; waiting = entries-fit schedule bytes } }) b
+  from_reset k n schedule small acc fit bytes b =
+      boot_run k n (start rom exe sizes schedule) (record { began = refl; given = refl; reads = tt; fits = record { history = record { given = given-fits exe sizes acc fit; bytes = tt }; waiting = entries-fit schedule bytes }; words = reset-fits rom exe small acc.bytes }) b

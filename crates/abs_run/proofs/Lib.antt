@@ -1,12 +1,16 @@
 pub mod UserMemory
 pub mod UserSide
 pub mod Answers
+pub mod Numbers
+pub mod WordsKept
+pub mod StepWords
 pub mod Delivered
 pub mod Entering
 pub mod Behind
 pub mod Standing
 pub mod Signed
 pub mod Counts
+pub mod Staying
 pub mod Composition
 pub mod PortAsked
 pub mod FromReset

@@ -15,6 +15,7 @@ use Rattle.psx_ports.specs.History.{History, Read, Write, then_event, last_writt
 use Rattle.psx_board.specs.Machine.{Machine}
 use Rattle.psx_board.specs.Entries.{return}
 use Rattle.psx_board.specs.Turn.{Turn, On, Ends, moved, accessed, shown, write_shown, after_write, by_move}
+use Rattle.abs_run.specs.InWords.{CoreFits, MoveFits}
 use Rattle.abs_run.specs.InKernel.{InKernel, in_kernel, Sign, Nothing, PortRead, PortWritten, Printed, LeftKernel, EndedRun, Strayed, halt_sign, write_sign, sign_of}
 use Rattle.abs_run.specs.Invariant.{Passes, accesses_of}
 use Rattle.abs_run.proofs.Delivered.{MachineFits}
@@ -25,6 +26,7 @@ pub record After (d : Machine) (h : History) (next : Machine) : Type 0 where
   pub counted : next.history.now ≡ d.history.now + 1
   pub began : next.began ≡ true
   pub fits : MachineFits d → MachineFits next
+  pub words : CoreFits next.core
 
 -- the board's turn shows the same
 abbrev pub Signed : Machine → Sign → Turn → Type 0
@@ -41,37 +43,41 @@ Signed d (EndedRun core stop) turn = (last : Machine) × (turn ≡ Ends last sto
 Signed d Strayed turn = Unit {0}
 
 module _ (d : Machine) (began : d.began ≡ true) where
-  after-quiet : (k : Core) → After d d.history (moved d k)
-  after-quiet k = record {
+  after-quiet : (k : Core) → CoreFits k → After d d.history (moved d k)
+  after-quiet k w = record {
     passes = record { given = refl; accesses = refl; now = omega arith };
     counted = refl;
     began = began;
     fits = λ f. record { history = record { given = f.history.given; bytes = f.history.bytes }; waiting = f.waiting };
+    words = w;
   }
 
-  after-read : (k : Core) (at : ℕ) → After d (then_event d.history (Read d.history.now at)) (moved (accessed d (Read d.history.now at)) k)
-  after-read k at = record {
+  after-read : (k : Core) (at : ℕ) → CoreFits k → After d (then_event d.history (Read d.history.now at)) (moved (accessed d (Read d.history.now at)) k)
+  after-read k at w = record {
     passes = record { given = refl; accesses = refl; now = omega arith };
     counted = refl;
     began = began;
     fits = λ f. record { history = record { given = f.history.given; bytes = f.history.bytes }; waiting = f.waiting };
+    words = w;
   }
 
-  after-written : (k : Core) (at value : ℕ) → After d (then_event d.history (Write d.history.now at value)) (moved (accessed d (Write d.history.now at value)) k)
-  after-written k at value = record {
+  after-written : (k : Core) (at value : ℕ) → CoreFits k → After d (then_event d.history (Write d.history.now at value)) (moved (accessed d (Write d.history.now at value)) k)
+  after-written k at value w = record {
     passes = record { given = refl; accesses = refl; now = omega arith };
     counted = refl;
     began = began;
     fits = λ f. record { history = record { given = f.history.given; bytes = f.history.bytes }; waiting = f.waiting };
+    words = w;
   }
 
   -- a write of a halt port is no access
-  after-halt : (k : Core) (at value : ℕ) → accesses_of (Write d.history.now at value ∷ d.history.events) ≡ accesses_of d.history.events → After d d.history (moved (accessed d (Write d.history.now at value)) k)
-  after-halt k at value e = record {
+  after-halt : (k : Core) (at value : ℕ) → CoreFits k → accesses_of (Write d.history.now at value ∷ d.history.events) ≡ accesses_of d.history.events → After d d.history (moved (accessed d (Write d.history.now at value)) k)
+  after-halt k at value w e = record {
     passes = record { given = refl; accesses = e; now = omega arith };
     counted = refl;
     began = began;
     fits = λ f. record { history = record { given = f.history.given; bytes = f.history.bytes }; waiting = f.waiting };
+    words = w;
   }
 
   shown-true : (item : Item) → shown d.began item ≡ item ∷ []
@@ -96,7 +102,7 @@ module _ (d : Machine) (began : d.began ≡ true) where
   stop-not_budget (suc (suc (suc (suc (suc (suc (suc zero))))))) a b c stop h e = absurd (cc)
   stop-not_budget (suc (suc (suc (suc (suc (suc (suc (suc n)))))))) a b c stop h e = absurd (cc)
 
-  module _ (k : Core) (value : ℕ) where
+  module _ (k : Core) (value : ℕ) (w : CoreFits k) where
     abbrev went : ℕ → Machine
     went at = moved (accessed d (Write d.history.now at value)) k
 
@@ -107,32 +113,32 @@ module _ (d : Machine) (began : d.began ≡ true) where
     here = in_kernel k d.history
 
     data-signed : (at : ℕ) → at ≡ CONSOLE_DATA → Signed d (Printed (in_kernel k d.history) (value % 2 ^ 8)) (wrote at (Tty (value % 2 ^ 8)))
-    data-signed at e = subst (λ (p : ℕ). Signed d (Printed (in_kernel k d.history) (value % 2 ^ 8)) (wrote p (Tty (value % 2 ^ 8)))) (sym e) (went CONSOLE_DATA, value, refl, refl, refl, after-written k CONSOLE_DATA value)
+    data-signed at e = subst (λ (p : ℕ). Signed d (Printed (in_kernel k d.history) (value % 2 ^ 8)) (wrote p (Tty (value % 2 ^ 8)))) (sym e) (went CONSOLE_DATA, value, refl, refl, refl, after-written k CONSOLE_DATA value w)
 
     halt-told : (o : Option Stop) → ((stop : Stop) → o ≡ Some stop → stop ≢ Budget) → Signed d (halt_sign (in_kernel k d.history) o) (wrote HALT (halted o))
-    halt-told None h = (went HALT, refl, refl, after-halt k HALT value refl)
+    halt-told None h = (went HALT, refl, refl, after-halt k HALT value w refl)
     halt-told (Some stop) h = (went HALT, refl, refl, h stop refl)
 
     halt-signed : (at : ℕ) → at ≡ HALT → (o : Option Stop) → ((stop : Stop) → o ≡ Some stop → stop ≢ Budget) → Signed d (halt_sign (in_kernel k d.history) o) (wrote at (halted o))
     halt-signed at e o h = subst (λ (p : ℕ). Signed d (halt_sign (in_kernel k d.history) o) (wrote p (halted o))) (sym e) (halt-told o h)
 
     a-signed : (at : ℕ) → at ≡ HALT_A → Signed d (Nothing (record (in_kernel k d.history) { a = value })) (wrote at Quiet)
-    a-signed at e = subst (λ (p : ℕ). Signed d (Nothing (record (in_kernel k d.history) { a = value })) (wrote p Quiet)) (sym e) (went HALT_A, refl, refl, after-halt k HALT_A value refl)
+    a-signed at e = subst (λ (p : ℕ). Signed d (Nothing (record (in_kernel k d.history) { a = value })) (wrote p Quiet)) (sym e) (went HALT_A, refl, refl, after-halt k HALT_A value w refl)
 
     b-signed : (at : ℕ) → at ≡ HALT_B → Signed d (Nothing (record (in_kernel k d.history) { b = value })) (wrote at Quiet)
-    b-signed at e = subst (λ (p : ℕ). Signed d (Nothing (record (in_kernel k d.history) { b = value })) (wrote p Quiet)) (sym e) (went HALT_B, refl, refl, after-halt k HALT_B value refl)
+    b-signed at e = subst (λ (p : ℕ). Signed d (Nothing (record (in_kernel k d.history) { b = value })) (wrote p Quiet)) (sym e) (went HALT_B, refl, refl, after-halt k HALT_B value w refl)
 
     c-signed : (at : ℕ) → at ≡ HALT_C → Signed d (Nothing (record (in_kernel k d.history) { c = value })) (wrote at Quiet)
-    c-signed at e = subst (λ (p : ℕ). Signed d (Nothing (record (in_kernel k d.history) { c = value })) (wrote p Quiet)) (sym e) (went HALT_C, refl, refl, after-halt k HALT_C value refl)
+    c-signed at e = subst (λ (p : ℕ). Signed d (Nothing (record (in_kernel k d.history) { c = value })) (wrote p Quiet)) (sym e) (went HALT_C, refl, refl, after-halt k HALT_C value w refl)
 
     other-signed : (at : ℕ) → nat_eq at HALT_A ≡ false → nat_eq at HALT_B ≡ false → nat_eq at HALT_C ≡ false → (nat_le CONSOLE_STATUS at && nat_le at HALT) ≡ false → Signed d (PortWritten (in_kernel k d.history) at value) (wrote at Quiet)
     other-signed at a b c r =
-        let w : write_shown d.began d.history.now at value ≡ W d.history.now at value ∷ [] = ap (λ (x : Bool). if x then [] else shown d.began (W d.history.now at value)) r ∙ shown-true (W d.history.now at value) in
+        let shows : write_shown d.began d.history.now at value ≡ W d.history.now at value ∷ [] = ap (λ (x : Bool). if x then [] else shown d.began (W d.history.now at value)) r ∙ shown-true (W d.history.now at value) in
         let h = d.history in (
           went at,
-          ap (λ (items : List Item). On (went at) items []) w,
+          ap (λ (items : List Item). On (went at) items []) shows,
           (λ i. record { core = k; a = if a i then value else last_written h.events HALT_A; b = if b i then value else last_written h.events HALT_B; c = if c i then value else last_written h.events HALT_C }),
-          after-written k at value,
+          after-written k at value w,
         )
 
     write-signed : (at : ℕ) → Signed d (write_sign (in_kernel k d.history) at value) (by_move d (Writes k at value))
@@ -145,13 +151,13 @@ module _ (d : Machine) (began : d.began ≡ true) where
         (λ b. if-one (nat_eq at HALT_C) _ _ _ (λ e. c-signed at (eqb-true at HALT_C e))
         (λ c. if-one (nat_le CONSOLE_STATUS at && nat_le at HALT) _ _ _ (λ _. tt) (λ r. other-signed at a b c r))))))
 
-  pub signed : (move : Move) → Signed d (sign_of (in_kernel d.core d.history) move) (by_move d move)
-  signed (Goes next) = (moved d next, refl, refl, after-quiet next)
-  signed (Reads next at value) =
-      (moved (accessed d (Read d.history.now at)) next, ap (λ (items : List Item). On (moved (accessed d (Read d.history.now at)) next) items []) (shown-true (R d.history.now at value)), refl, after-read next at)
-  signed (Writes next at value) = write-signed next value at
-  signed (Enters next code) = tt
-  signed (Leaves next) = (
+  pub signed : (move : Move) → MoveFits move → Signed d (sign_of (in_kernel d.core d.history) move) (by_move d move)
+  signed (Goes next) w = (moved d next, refl, refl, after-quiet next w)
+  signed (Reads next at value) w =
+      (moved (accessed d (Read d.history.now at)) next, ap (λ (items : List Item). On (moved (accessed d (Read d.history.now at)) next) items []) (shown-true (R d.history.now at value)), refl, after-read next at w)
+  signed (Writes next at value) w = write-signed next value w at
+  signed (Enters next code) w = tt
+  signed (Leaves next) w = (
     record (moved d next) { began = true },
     ap (λ (b : Bool). On (record (moved d next) { began = true }) (return d.history.now b next ∷ []) []) began,
     refl,
@@ -160,6 +166,7 @@ module _ (d : Machine) (began : d.began ≡ true) where
       counted = refl;
       began = refl;
       fits = λ f. record { history = record { given = f.history.given; bytes = f.history.bytes }; waiting = f.waiting };
+      words = w;
     },
   )
-  signed (Stops stop) = tt
+  signed (Stops stop) w = tt

@@ -21,7 +21,8 @@ use Rattle.abs_kernel.specs.KernelStep.{stay_of}
 use Rattle.abs_run.specs.Invariant.{ReturnsTo, IsInvariant, EachEntry}
 use Rattle.abs_run.specs.RunLaws.{BoardRuns, BootsIn, BoardBoots, always, EveryRun}
 use Rattle.abs_run.proofs.Counts.{run-rises}
-use Rattle.abs_run.proofs.Composition.{AtUser, each_run}
+use Rattle.abs_run.proofs.Staying.{AtUser}
+use Rattle.abs_run.proofs.Composition.{each_run}
 use Rattle.abs_run.proofs.FromReset.{Started, BootRun, from_reset}
 
 -- ---- the boot
@@ -36,7 +37,7 @@ boots-in rom exe sizes schedule k n o (inr (low, h)) =
 
 pub board_boots : (covers : KernelState → ℕ → Type 0) → BoardBoots covers
 board_boots covers rom serves exe sizes schedule budget acc fit bytes =
-    boots-in rom exe sizes schedule serves.boot_steps budget _ (from_reset rom exe sizes serves.boot_steps budget schedule acc fit bytes (serves.boots exe sizes acc fit))
+    boots-in rom exe sizes schedule serves.boot_steps budget _ (from_reset rom exe sizes serves.boot_steps budget schedule serves.bytes acc fit bytes (serves.boots exe sizes acc fit))
 
 -- ---- the run
 
@@ -49,6 +50,7 @@ module _ (covers : KernelState → ℕ → Type 0) (keeps : KernelState → Hist
     invariant = inv.begins exe sizes m.history acc fit st.given st.reads;
     began = st.began;
     fits = st.fits;
+    words = st.words;
   }
 
   comes : (schedule : List Entry) (n : ℕ) (o : Outcome) → BootRun rom exe sizes serves.boot_steps n (start rom exe sizes schedule) o → EachEntry shows o.items
@@ -71,7 +73,7 @@ module _ (covers : KernelState → ℕ → Type 0) (keeps : KernelState → Hist
 pub board_runs : (covers : KernelState → ℕ → Type 0) (keeps : KernelState → History → Type 0) (shows : Entrance → ℕ → Type 0) → BoardRuns covers keeps shows
 board_runs covers keeps shows rom serves inv exe sizes schedule budget acc fit bytes each = record {
   counts = run-rises budget (start rom exe sizes schedule);
-  comes = comes covers keeps shows rom serves inv exe sizes acc fit schedule budget _ (from_reset rom exe sizes serves.boot_steps budget schedule acc fit bytes (serves.boots exe sizes acc fit)) each;
+  comes = comes covers keeps shows rom serves inv exe sizes acc fit schedule budget _ (from_reset rom exe sizes serves.boot_steps budget schedule serves.bytes acc fit bytes (serves.boots exe sizes acc fit)) each;
 }
 
 -- ---- where everything is served

@@ -1,5 +1,5 @@
 -- What a run is given, and the state in which its program begins.
-use Rattle.std.specs.Prelude.{◌^◌, ◌<◌, List, All}
+use Rattle.std.specs.Prelude.{ℕ, ◌^◌, ◌<◌, List, All}
 use Rattle.psx_base.specs.declared.stop.Sizes.{Sizes}
 use Rattle.psx_base.specs.Memory.{Memory, no_bytes}
 use Rattle.psx_base.specs.KernelState.{KernelState}
@@ -10,10 +10,11 @@ use Rattle.psx_exe.specs.Reading.{IsReadable}
 use Rattle.psx_exe.specs.Placed.{placed, stack_top}
 use Rattle.kern_layout.specs.Start.{start}
 
--- a program that some file is read as; its gp is a word, as each number of a file of bytes is
+-- a program that some file is read as; its gp is a word and its text bytes, as they are in a file of bytes
 pub record IsAccepted (exe : Exe) : Type 0 where
   pub readable : IsReadable exe
   pub word : exe.gp < 2 ^ 32
+  pub bytes : All (λ (b : ℕ). b < 2 ^ 8) exe.text
 
 -- the bytes of a schedule are bytes
 abbrev pub AreBytes : List Entry → Type 0

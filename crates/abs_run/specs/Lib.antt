@@ -1,4 +1,5 @@
 pub mod Accepted
+pub mod InWords
 pub mod InKernel
 pub mod Serves
 pub mod Entered

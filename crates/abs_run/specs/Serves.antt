@@ -1,5 +1,5 @@
 -- That a ROM serves the written kernel machine: its words boot to the state in which a program begins, and from each entry they make the stay.
-use Rattle.std.specs.Prelude.{◌≡◌, ℕ, zero, suc, ◌+◌, ◌*◌, ◌^◌, ◌<◌, ◌≤◌, Bool, true, ◌||◌, nat_eq, is_some, List, []}
+use Rattle.std.specs.Prelude.{◌≡◌, ℕ, zero, suc, ◌+◌, ◌*◌, ◌^◌, ◌<◌, ◌≤◌, Bool, true, ◌||◌, nat_eq, is_some, List, [], All}
 use Rattle.psx_base.specs.declared.ports.TheConstants.{START_PC, START_GP, START_SP, START_THREADS, START_EVENTS}
 use Rattle.psx_base.specs.declared.stop.Stop.{Stop}
 use Rattle.psx_base.specs.declared.stop.Sizes.{Sizes}
@@ -19,6 +19,7 @@ use Rattle.kern_layout.specs.Stands.{HoldsRom, SameUser, Stands}
 use Rattle.abs_kernel.specs.Stay.{Stay, Return, Halt, Ask, Tell, Write, Touch}
 use Rattle.abs_kernel.specs.KernelStep.{stay_of}
 use Rattle.abs_run.specs.Accepted.{IsAccepted, opening}
+use Rattle.abs_run.specs.InWords.{CoreFits}
 use Rattle.abs_run.specs.InKernel.{InKernel, side_of, Sign, Nothing, PortRead, PortWritten, Printed, LeftKernel, EndedRun, sign_of}
 use Rattle.abs_run.specs.Entered.{MayEnter, bound_of}
 
@@ -99,11 +100,12 @@ GatesRead rom = (m : Memory) (at : ℕ) → HoldsRom m rom → is_some (gate_of 
 abbrev pub entered : Core → Trap → (a b c : ℕ) → InKernel
 entered k trap a b c = record { core = record k { processor = enter k.processor trap }; a = a; b = b; c = c }
 
--- A ROM serves what is covered, by the state and the exception's code. The boot takes the same number of steps for all programs and sizes.
+-- A ROM serves what is covered, by the state and the exception's code: from each processor with its memory, of words and bytes, that stands for a valid state. The boot takes the same number of steps for all programs and sizes.
 pub record Serves (covers : KernelState → ℕ → Type 0) (rom : List ℕ) : Type 0 where
+  pub bytes : All (λ (b : ℕ). b < 2 ^ 8) rom
   pub gates : GatesRead rom
   pub boot_steps : ℕ
   pub boot_few : boot_steps ≤ 400000
   pub boots : (exe : Exe) (sizes : Sizes) → IsAccepted exe → SizesFit sizes → Boots rom exe sizes boot_steps (start rom exe sizes []).core
-  pub stays : (k : Core) (s : KernelState) (trap : Trap) (a b c : ℕ) → Valid s → Stands (side_of k) k.bytes s rom → MayEnter s trap → covers s trap.code
+  pub stays : (k : Core) (s : KernelState) (trap : Trap) (a b c : ℕ) → Valid s → CoreFits k → Stands (side_of k) k.bytes s rom → MayEnter s trap → covers s trap.code
       → Runs rom (stay_of s trap.code) (bound_of s trap.code) (entered k trap a b c)

@@ -1,4 +1,5 @@
 //! The laws of runs: each function's contract is the law, and the function does nothing.
+ghost use Rattle.abs_run.specs.InWords.{StepsKeepWords};
 ghost use Rattle.abs_run.specs.RunLaws.{BoardRuns, BoardBoots, EveryRun, ItemsDetermine, ListsAreServed};
 
 use crate::coverage::Coverage;
@@ -29,4 +30,9 @@ pub fn items_determine()
 /// Words that make a stay step by step make it with each list of port answers, whatever the interrupt line shows, within the bound and 128 steps for each unit that it touches.
 pub fn lists_are_served()
     ensures { ListsAreServed }
+{}
+
+/// Each step of the processor leaves words in its registers and bytes in memory, where it finds them and its port answers a word. So a ROM need serve such a processor alone.
+pub fn words_are_kept()
+    ensures { StepsKeepWords }
 {}

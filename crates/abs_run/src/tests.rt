@@ -1,5 +1,7 @@
 use crate::coverage::Everything;
-use crate::laws::{board_boots, board_runs, every_run, items_determine, lists_are_served};
+use crate::laws::{
+    board_boots, board_runs, every_run, items_determine, lists_are_served, words_are_kept,
+};
 
 // The laws at the widest choice of entries. They do nothing when they run.
 #[test]
@@ -9,4 +11,5 @@ fn the_laws_hold_of_everything() {
     every_run();
     items_determine();
     lists_are_served();
+    words_are_kept();
 }
