@@ -6,6 +6,8 @@ mod file_host;
 #[cfg(test)]
 mod inputs;
 #[cfg(test)]
+mod made;
+#[cfg(test)]
 mod programs;
 #[cfg(test)]
 mod refusals;

@@ -7,9 +7,9 @@ use Rattle.psx_base.specs.declared.stop.Stop.TheVariants.{Exit, Budget}
 use Rattle.psx_base.specs.Host.{Rose}
 use Rattle.psx_board.specs.Run.{Outcome}
 use Rattle.psxk_run.specs.Reports.{stop_line, memory_line}
-use Rattle.psxk_run.specs.Sent.{Grew, OnlyReports, Says}
+use Rattle.psxk_run.specs.Sent.{Grew, OnlyReports, Says, SentAlone}
 use Rattle.psxk_run.specs.Texts.{report_of, status_of, Delivers}
-use Rattle.psxk_run.specs.Top.{HasTexts, RunsBoard, RunsProgram}
+use Rattle.psxk_run.specs.Top.{HasTexts, RunsBoard, RunsProgram, MakesText}
 
 pub grew_nothing : (b : Option (List ℕ)) → Grew b b []
 grew_nothing None = tt
@@ -84,3 +84,11 @@ runs_from old mid new f0 f1 f2 o result same up (inr (inr failed)) = inr (inr (f
 pub says_from : (old mid new : Out → Option (List ℕ)) (f0 f1 f2 : ℕ) (text : List ℕ) (status result : ℕ) → ((out : Out) → mid out ≡ old out) → f0 ≤ f1 → Says mid new f1 f2 text status result → Says old new f0 f2 text status result
 says_from old mid new f0 f1 f2 text status result same up (inl said) = inl (said.0, rw (← same Report) said.1)
 says_from old mid new f0 f1 f2 text status result same up (inr failed) = inr (failed.0, rose_later f0 f1 f2 up failed.1)
+
+alone_from : (old mid new : Out → Option (List ℕ)) (out : Out) (text : List ℕ) → ((o : Out) → mid o ≡ old o) → SentAlone mid new out text → SentAlone old new out text
+alone_from old mid new out text same s = record { only = λ o other. s.only o other ∙ same o; whole = rw (← same out) s.whole }
+
+pub makes_from : (old mid new : Out → Option (List ℕ)) (f0 f1 f2 : ℕ) (out : Out) (text : List ℕ) (result : ℕ) → ((o : Out) → mid o ≡ old o) → f0 ≤ f1 → MakesText mid new f1 f2 out text result → MakesText old new f0 f2 out text result
+makes_from old mid new f0 f1 f2 out text result same up (inl memory) = inl (memory.0, (λ o other. memory.1 o other ∙ same o), rw (← same Report) memory.2)
+makes_from old mid new f0 f1 f2 out text result same up (inr (inl sends)) = inr (inl (sends.0, alone_from old mid new out text same sends.1))
+makes_from old mid new f0 f1 f2 out text result same up (inr (inr failed)) = inr (inr (failed.0, rose_later f0 f1 f2 up failed.1))

@@ -8,8 +8,8 @@ use Rattle.psx_base.specs.Host.{SendsFront}
 use Rattle.psx_board.specs.Run.{Outcome}
 use Rattle.psxk_run.specs.Sent.{Grew, GrewFront, OnlyReports}
 use Rattle.psxk_run.specs.Texts.{trace_text, report_of, status_of, Delivers, BreaksOff}
-use Rattle.psxk_run.specs.Reports.{stop_line}
-use Rattle.psxk_run.specs.InPart.{HasFronts, ReportsFront}
+use Rattle.psxk_run.specs.Reports.{stop_line, memory_line}
+use Rattle.psxk_run.specs.InPart.{HasFronts, ReportsFront, TextInPart}
 use Rattle.psxk_run.proofs.Grew.{grew_more}
 use Rattle.psxk_run.proofs.Ends.{grew_nothing, loud_report}
 
@@ -69,3 +69,7 @@ reports_from old mid new line same r = record { only = λ o other. r.only o othe
 pub part_from : (old mid new : Out → Option (List ℕ)) (o : Outcome) (line : List ℕ) → ((out : Out) → mid out ≡ old out) → HasFronts mid new o ⊎ ReportsFront mid new line → HasFronts old new o ⊎ ReportsFront old new line
 part_from old mid new o line same (inl h) = inl (fronts_from old mid new o same h)
 part_from old mid new o line same (inr r) = inr (reports_from old mid new line same r)
+
+pub text_from : (old mid new : Out → Option (List ℕ)) (out : Out) (text : List ℕ) → ((o : Out) → mid o ≡ old o) → TextInPart mid new out text → TextInPart old new out text
+text_from old mid new out text same (inl f) = inl (record { only = λ o other. f.only o other ∙ same o; front = rw (← same out) f.front })
+text_from old mid new out text same (inr r) = inr (reports_from old mid new memory_line same r)

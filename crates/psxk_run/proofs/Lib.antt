@@ -11,4 +11,7 @@ pub mod ConfigSettings
 pub mod ConfigAnswer
 pub mod ConfigProgress
 pub mod Loading
+pub mod PrintedWords
+pub mod SameAnswer
+pub mod Statuses
 pub mod Answering

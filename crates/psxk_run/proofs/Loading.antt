@@ -1,4 +1,4 @@
--- What the loads of a command gave, from the moment before the first.
+-- What the loads of a run gave, from the moment before the first.
 use Rattle.std.proofs.Common.{◌≡◌, ℕ, ◌≤◌, List, Option, None, Some, Result, Ok, Err, refl, sym, subst, inl, inr, arith}
 use Rattle.std.specs.Prelude.{min, ◌+◌, ◌-◌, ◌^◌}
 use Rattle.psx_base.specs.declared.stop.Sizes.{Sizes}
@@ -9,7 +9,7 @@ use Rattle.psx_exe.specs.declared.exe.Exe.{Exe}
 use Rattle.psxk_run.specs.declared.configuration.ConfError.{ConfError}
 use Rattle.psxk_run.specs.declared.refusal.Refusal.{Refusal}
 use Rattle.psxk_run.specs.declared.refusal.Refusal.TheVariants.{Program, Schedule, Config, Unread, Memory}
-use Rattle.psxk_run.specs.Command.{Command}
+use Rattle.psxk_run.specs.Command.{RunWords}
 use Rattle.psxk_run.specs.Inputs.{IsLoaded, GivesProgram, GivesEntries, GivesSchedule, GivesNumbers, GivesSizes, IsCause, OfProgram, OfSchedule, OfSizes, Names}
 use Rattle.psxk_run.proofs.GoingOn.{rose-since}
 
@@ -33,11 +33,11 @@ module _ (held mid : List ℕ → Option (List ℕ)) (same : (n : List ℕ) → 
   sizes-from (Some name) a g = numbers-from name a g
 
 -- a load that failed, of a name that the words give
-unread : (before mid now : List ℕ → ℕ) → ((n : List ℕ) → before n ≤ mid n) → (c : Command) (name other : List ℕ) → Names c name → other ≡ name → Rose (mid name) (now name) → Names c other × Rose (before other) (now other)
+unread : (before mid now : List ℕ → ℕ) → ((n : List ℕ) → before n ≤ mid n) → (c : RunWords) (name other : List ℕ) → Names c name → other ≡ name → Rose (mid name) (now name) → Names c other × Rose (before other) (now other)
 unread before mid now up c name other named is rose =
     (subst (λ (n : List ℕ). Names c n) (sym is) named, subst (λ (n : List ℕ). Rose (before n) (now n)) (sym is) (rose-since (before name) (mid name) (now name) (up name) rose))
 
-pub program-cause : (held : List ℕ → Option (List ℕ)) (before now : List ℕ → ℕ) (c : Command) (refusal : Refusal) → OfProgram held before now c.name refusal → IsCause held before now c refusal
+pub program-cause : (held : List ℕ → Option (List ℕ)) (before now : List ℕ → ℕ) (c : RunWords) (refusal : Refusal) → OfProgram held before now c.name refusal → IsCause held before now c refusal
 program-cause held before now c (Program fault) o = o
 program-cause held before now c (Unread other) o = unread before before now (λ n. omega arith) c c.name other.now (inl refl) o.0 o.1
 program-cause held before now c Memory o = tt
@@ -61,11 +61,11 @@ module _ (held mid : List ℕ → Option (List ℕ)) (same : (n : List ℕ) → 
   sizes-cause-of schedule (Some text) Memory exe entries program gives o = tt
   sizes-cause-of schedule (Some text) _ exe entries program gives o = absurd o
 
-pub schedule-cause : (held mid : List ℕ → Option (List ℕ)) → ((n : List ℕ) → mid n ≡ held n) → (before middle now : List ℕ → ℕ) → ((n : List ℕ) → before n ≤ middle n) → (c : Command) (refusal : Refusal) (exe : Exe)
+pub schedule-cause : (held mid : List ℕ → Option (List ℕ)) → ((n : List ℕ) → mid n ≡ held n) → (before middle now : List ℕ → ℕ) → ((n : List ℕ) → before n ≤ middle n) → (c : RunWords) (refusal : Refusal) (exe : Exe)
     → GivesProgram (IsLoaded held) c.name (Ok exe) → OfSchedule mid middle now c.schedule refusal → IsCause held before now c refusal
 schedule-cause held mid same before middle now up c refusal exe program o = schedule-cause-of held mid same before middle now up c.name c.budget c.schedule c.config refusal exe program o
 
-pub sizes-cause : (held mid : List ℕ → Option (List ℕ)) → ((n : List ℕ) → mid n ≡ held n) → (before middle now : List ℕ → ℕ) → ((n : List ℕ) → before n ≤ middle n) → (c : Command) (refusal : Refusal) (exe : Exe) (entries : List Entry)
+pub sizes-cause : (held mid : List ℕ → Option (List ℕ)) → ((n : List ℕ) → mid n ≡ held n) → (before middle now : List ℕ → ℕ) → ((n : List ℕ) → before n ≤ middle n) → (c : RunWords) (refusal : Refusal) (exe : Exe) (entries : List Entry)
     → GivesProgram (IsLoaded held) c.name (Ok exe) → GivesSchedule (IsLoaded held) c.schedule (Ok entries) → OfSizes mid middle now c.config refusal → IsCause held before now c refusal
 sizes-cause held mid same before middle now up c refusal exe entries program gives o = sizes-cause-of held mid same before middle now up c.name c.budget c.schedule c.config refusal exe entries program gives o
 
@@ -73,9 +73,15 @@ sizes-cause held mid same before middle now up c refusal exe entries program giv
 rose-until : (a b c : ℕ) → Rose a b → b ≤ c → Rose a c
 rose-until a b c rose up = let e : min (a + 1) (2 ^ 64 - 1) ≤ b = rose in omega arith
 
-pub cause-later : (held : List ℕ → Option (List ℕ)) (before now later : List ℕ → ℕ) (c : Command) (refusal : Refusal) → ((n : List ℕ) → now n ≤ later n) → IsCause held before now c refusal → IsCause held before later c refusal
+pub cause-later : (held : List ℕ → Option (List ℕ)) (before now later : List ℕ → ℕ) (c : RunWords) (refusal : Refusal) → ((n : List ℕ) → now n ≤ later n) → IsCause held before now c refusal → IsCause held before later c refusal
 cause-later held before now later c (Unread name) up cause = (cause.0, rose-until (before name.now) (now name.now) (later name.now) cause.1 (up name.now))
 cause-later held before now later c (Program fault) up cause = cause
 cause-later held before now later c (Schedule fault) up cause = cause
 cause-later held before now later c (Config fault) up cause = cause
 cause-later held before now later c Memory up cause = cause
+
+pub program-later : (held : List ℕ → Option (List ℕ)) (before now later : List ℕ → ℕ) (name : List ℕ) (refusal : Refusal) → ((n : List ℕ) → now n ≤ later n) → OfProgram held before now name refusal → OfProgram held before later name refusal
+program-later held before now later name (Program fault) up cause = cause
+program-later held before now later name (Unread other) up cause = (cause.0, rose-until (before name) (now name) (later name) cause.1 (up name))
+program-later held before now later name Memory up cause = cause
+program-later held before now later name _ up cause = absurd cause

@@ -13,23 +13,43 @@ abbrev pub budget_of : List ℕ → Option ℕ
 budget_of [] = None
 budget_of (first ∷ rest) = if first == 48 then None else value_of 0 (first ∷ rest)
 
--- the names of a program, of a schedule and of a configuration, where they are loaded, and a budget
-pub record Command : Type 0 where
+-- a run: the names of a program, of a schedule and of a configuration, where they are loaded, and a budget
+pub record RunWords : Type 0 where
   pub name : List ℕ
   pub schedule : Option (List ℕ)
   pub budget : ℕ
   pub config : Option (List ℕ)
 
+-- the commands
+pub data Command : Type 0 where
+  ToRun : RunWords → Command
+  ToImage : Command
+  ToPrint : (name : List ℕ) → Command
+
 -- the word `-` is the empty schedule, and loads nothing
 abbrev pub schedule_of : List ℕ → Option (List ℕ)
 schedule_of word = if bytes_eq word (codes "-") then None else Some word
 
+-- one word: `image`
+abbrev pub alone : List ℕ → Option Command
+alone word = if bytes_eq word (codes "image") then Some ToImage else None
+
+-- two words: `dis EXE`
+abbrev pub with_name : List ℕ → List ℕ → Option Command
+with_name word name = if bytes_eq word (codes "dis") then Some (ToPrint name) else None
+
 abbrev pub asked : List ℕ → List ℕ → Option (List ℕ) → Option ℕ → Option Command
 asked name schedule config None = None
-asked name schedule config (Some n) = Some (record { name = name; schedule = schedule_of schedule; budget = n; config = config })
+asked name schedule config (Some n) = Some (ToRun (record { name = name; schedule = schedule_of schedule; budget = n; config = config }))
 
 -- `run EXE SCHED BUDGET` and `run EXE SCHED BUDGET CNF`
+abbrev pub with_files : List ℕ → List ℕ → List ℕ → List ℕ → Option (List ℕ) → Option Command
+with_files word name schedule number config = if bytes_eq word (codes "run") then asked name schedule config (budget_of number) else None
+
+-- what words ask for, if anything
 unfoldable pub command_of : List (List ℕ) → Option Command
-command_of (word ∷ name ∷ schedule ∷ budget ∷ []) = if bytes_eq word (codes "run") then asked name schedule None (budget_of budget) else None
-command_of (word ∷ name ∷ schedule ∷ budget ∷ config ∷ []) = if bytes_eq word (codes "run") then asked name schedule (Some config) (budget_of budget) else None
+command_of (word ∷ []) = alone word
+command_of (word ∷ name ∷ []) = with_name word name
+command_of (word ∷ name ∷ schedule ∷ number ∷ []) = with_files word name schedule number None
+command_of (word ∷ name ∷ schedule ∷ number ∷ config ∷ []) = with_files word name schedule number (Some config)
 command_of _ = None

@@ -1,16 +1,20 @@
--- How a command ends, in one relation: by a run, or refused.
-use Rattle.std.specs.Prelude.{◌⊎◌, ℕ, List, Option}
+-- How a command ends, in one relation: carried out, or refused.
+use Rattle.std.specs.Prelude.{◌⊎◌, ℕ, List, Option, Ok}
 use Rattle.psx_base.specs.declared.host.Out.{Out}
-use Rattle.psx_base.specs.declared.host.Out.TheVariants.{Report}
+use Rattle.psx_base.specs.declared.host.Out.TheVariants.{Tty, Ram, Report}
 use Rattle.psxk_run.specs.declared.inputs.Inputs.{Inputs}
 use Rattle.psxk_run.specs.declared.refusal.Refusal.{Refusal}
-use Rattle.psxk_run.specs.Command.{Command}
-use Rattle.psxk_run.specs.Inputs.{IsLoaded, GivesAll, IsCause}
+use Rattle.psx_exe.specs.declared.exe.Exe.{Exe}
+use Rattle.kern_image.specs.Rom.{rom}
+use Rattle.psxk_run.specs.Command.{RunWords, Command, ToRun, ToImage, ToPrint}
+use Rattle.psxk_run.specs.Commands.{Causes}
+use Rattle.psxk_run.specs.Inputs.{IsLoaded, GivesAll, GivesProgram}
+use Rattle.psxk_run.specs.Printing.{printing}
 use Rattle.psxk_run.specs.Refusals.{line_of, status_of}
 use Rattle.psxk_run.specs.Reports.{memory_line}
 use Rattle.psxk_run.specs.Sent.{GrewFront, OnlyReports, Says}
-use Rattle.psxk_run.specs.Top.{run_of, RunsProgram}
-use Rattle.psxk_run.specs.InPart.{HasFronts, ReportsFront}
+use Rattle.psxk_run.specs.Top.{run_of, RunsProgram, MakesText}
+use Rattle.psxk_run.specs.InPart.{HasFronts, ReportsFront, TextInPart}
 
 -- what contracts see of a host at a moment
 pub record Moment : Type 0 where
@@ -23,20 +27,37 @@ abbrev pub moment : {H : Type 0} → (H → List ℕ → Option (List ℕ)) → 
 moment holds sent loads sends h = record { holds = holds h; sent = sent h; loads = loads h; sends = sends h }
 
 -- the run of the inputs that all files gave
-pub record EndsRun (old new : Moment) (c : Command) (status : ℕ) : Type 0 where
+pub record EndsRun (old new : Moment) (c : RunWords) (status : ℕ) : Type 0 where
   pub inputs : Inputs
   pub given : GivesAll (IsLoaded old.holds) c inputs
   pub ran : RunsProgram old.sent new.sent old.sends new.sends (run_of inputs c.budget) status
   pub fronts : HasFronts old.sent new.sent (run_of inputs c.budget) ⊎ ReportsFront old.sent new.sent memory_line
 
+-- a text that was made and sent
+pub record EndsText (old new : Moment) (out : Out) (text : List ℕ) (status : ℕ) : Type 0 where
+  pub sends : MakesText old.sent new.sent old.sends new.sends out text status
+  pub front : TextInPart old.sent new.sent out text
+
+-- the printed words of a program
+pub record EndsPrinting (old new : Moment) (name : List ℕ) (status : ℕ) : Type 0 where
+  pub exe : Exe
+  pub given : GivesProgram (IsLoaded old.holds) name (Ok exe)
+  pub text : EndsText old new Tty (printing exe) status
+
+-- a command that was carried out
+abbrev pub EndsWork : Moment → Moment → Command → ℕ → Type 0
+EndsWork old new (ToRun c) status = EndsRun old new c status
+EndsWork old new ToImage status = EndsText old new Ram rom status
+EndsWork old new (ToPrint name) status = EndsPrinting old new name status
+
 -- a refusal and its report
 pub record EndsRefused (old new : Moment) (c : Command) (status : ℕ) : Type 0 where
   pub refusal : Refusal
-  pub cause : IsCause old.holds old.loads new.loads c refusal
+  pub cause : Causes old.holds old.loads new.loads c refusal
   pub says : Says old.sent new.sent old.sends new.sends (line_of refusal) (status_of refusal) status
   pub front : GrewFront (old.sent Report) (new.sent Report) (line_of refusal)
   pub only : OnlyReports old.sent new.sent
 
 pub data Ends (old new : Moment) (c : Command) (status : ℕ) : Type 0 where
-  ByRun : EndsRun old new c status → Ends old new c status
+  ByWork : EndsWork old new c status → Ends old new c status
   ByRefusal : EndsRefused old new c status → Ends old new c status

@@ -1,14 +1,18 @@
 -- What a top call has sent in every case, also where a sending failed: on each output a front of its text. A whole text is a front of itself.
-use Rattle.std.specs.Prelude.{◌≡◌, ◌⊎◌, ℕ, List, Option, Some, None, Err}
+use Rattle.std.specs.Prelude.{◌≡◌, ◌⊎◌, ℕ, List, Option, Some, None, Ok}
 use Rattle.psx_base.specs.declared.host.Out.{Out}
 use Rattle.psx_base.specs.declared.host.Out.TheVariants.{Tty, Trace, Ram, Report}
 use Rattle.psx_board.specs.Run.{Outcome}
 use Rattle.psxk_run.specs.declared.inputs.Inputs.{Inputs}
 use Rattle.psxk_run.specs.declared.refusal.Refusal.{Refusal}
-use Rattle.psxk_run.specs.Command.{Command}
-use Rattle.psxk_run.specs.Inputs.{IsLoaded, GivesAll, Gives, Names}
+use Rattle.psx_exe.specs.declared.exe.Exe.{Exe}
+use Rattle.kern_image.specs.Rom.{rom}
+use Rattle.psxk_run.specs.Command.{RunWords, Command, ToRun, ToImage, ToPrint}
+use Rattle.psxk_run.specs.Commands.{Loads, Refuses}
+use Rattle.psxk_run.specs.Inputs.{IsLoaded, GivesAll, GivesProgram}
 use Rattle.psxk_run.specs.Refusals.{line_of}
-use Rattle.psxk_run.specs.Sent.{Grew, GrewFront, OnlyReports}
+use Rattle.psxk_run.specs.Printing.{printing}
+use Rattle.psxk_run.specs.Sent.{Grew, GrewFront, OnlyReports, FrontAlone}
 use Rattle.psxk_run.specs.Texts.{trace_text, ram_text, report_of}
 use Rattle.psxk_run.specs.Reports.{memory_line, read_line, usage_line}
 use Rattle.psxk_run.specs.Top.{run_of}
@@ -27,26 +31,42 @@ pub record HasFronts (before now : Out → Option (List ℕ)) (o : Outcome) : Ty
   pub report : GrewFront (before Report) (now Report) (report_of o.stop)
 
 -- all files were loaded and accepted, and of the run's texts fronts were sent, or of the line of want of memory
-pub record RanInPart {H : Type 0} (holds : H → List ℕ → Option (List ℕ)) (sent : H → Out → Option (List ℕ)) (old new : H) (c : Command) : Type 0 where
+pub record RanInPart {H : Type 0} (holds : H → List ℕ → Option (List ℕ)) (sent : H → Out → Option (List ℕ)) (old new : H) (c : RunWords) : Type 0 where
   pub inputs : Inputs
   pub given : GivesAll (IsLoaded (holds old)) c inputs
   pub texts : HasFronts (sent old) (sent new) (run_of inputs c.budget) ⊎ ReportsFront (sent old) (sent new) memory_line
 
+-- of the one text of a command a front was sent and nothing else, or of the line of want of memory
+abbrev pub TextInPart : (Out → Option (List ℕ)) → (Out → Option (List ℕ)) → Out → List ℕ → Type 0
+TextInPart before now out text = FrontAlone before now out text ⊎ ReportsFront before now memory_line
+
+-- the program was loaded and accepted, and of its printed words a front was sent
+pub record PrintedInPart {H : Type 0} (holds : H → List ℕ → Option (List ℕ)) (sent : H → Out → Option (List ℕ)) (old new : H) (name : List ℕ) : Type 0 where
+  pub exe : Exe
+  pub given : GivesProgram (IsLoaded (holds old)) name (Ok exe)
+  pub text : TextInPart (sent old) (sent new) Tty (printing exe)
+
+-- what is sent of a command that isn't refused
+abbrev pub DoneInPart : {H : Type 0} → (H → List ℕ → Option (List ℕ)) → (H → Out → Option (List ℕ)) → H → H → Command → Type 0
+DoneInPart holds sent old new (ToRun c) = RanInPart holds sent old new c
+DoneInPart holds sent old new ToImage = TextInPart (sent old) (sent new) Ram rom
+DoneInPart holds sent old new (ToPrint name) = PrintedInPart holds sent old new name
+
 -- the files that were loaded have a fault, and of its line a front was reported
 pub record RefusedInPart {H : Type 0} (holds : H → List ℕ → Option (List ℕ)) (sent : H → Out → Option (List ℕ)) (old new : H) (c : Command) : Type 0 where
   pub refusal : Refusal
-  pub given : Gives (IsLoaded (holds old)) c (Err refusal)
+  pub given : Refuses (IsLoaded (holds old)) c refusal
   pub report : ReportsFront (sent old) (sent new) (line_of refusal)
 
 -- a name that the words give wasn't loaded, and of its line a front was reported
 pub record UnreadInPart {H : Type 0} (sent : H → Out → Option (List ℕ)) (old new : H) (c : Command) : Type 0 where
   pub name : List ℕ
-  pub named : Names c name
+  pub named : Loads c name
   pub report : ReportsFront (sent old) (sent new) (read_line name)
 
 -- what a command has sent
 pub data SentInPart {H : Type 0} (holds : H → List ℕ → Option (List ℕ)) (sent : H → Out → Option (List ℕ)) (old new : H) (c : Command) : Type 0 where
-  InRun : RanInPart holds sent old new c → SentInPart holds sent old new c
+  InWork : DoneInPart holds sent old new c → SentInPart holds sent old new c
   InFault : RefusedInPart holds sent old new c → SentInPart holds sent old new c
   InRead : UnreadInPart sent old new c → SentInPart holds sent old new c
   InMemory : ReportsFront (sent old) (sent new) memory_line → SentInPart holds sent old new c

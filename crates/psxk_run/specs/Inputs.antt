@@ -1,4 +1,4 @@
--- What the files that a command names give: what its run is made from, or the first fault.
+-- What the files that a run names give: what its run is made from, or the first fault.
 use Rattle.std.specs.Prelude.{◌≡◌, ◌⊎◌, ℕ, ◌≤◌, List, [], take, Option, Some, None, Result, Ok, Err}
 use Rattle.psx_base.specs.declared.stop.Sizes.{Sizes}
 use Rattle.psx_base.specs.Host.{Rose, IsFront}
@@ -13,7 +13,7 @@ use Rattle.psxk_run.specs.declared.inputs.Inputs.{Inputs}
 use Rattle.psxk_run.specs.declared.refusal.Refusal.{Refusal}
 use Rattle.psxk_run.specs.declared.refusal.Refusal.TheVariants.{Program, Schedule, Config, Unread, Memory}
 use Rattle.psxk_run.specs.Config.{IsConfigOf}
-use Rattle.psxk_run.specs.Command.{Command}
+use Rattle.psxk_run.specs.Command.{RunWords}
 
 -- the sizes of the kernel's tables where the words give none
 abbrev pub plain_sizes : Sizes
@@ -61,28 +61,28 @@ abbrev pub GivesSizes : IsKnown → Option (List ℕ) → Result Sizes ConfError
 GivesSizes Known None answer = answer ≡ Ok plain_sizes
 GivesSizes Known (Some name) answer = GivesNumbers Known name answer
 
--- all files of a command are accepted, and these are the run's inputs
-pub record GivesAll (Known : IsKnown) (c : Command) (inputs : Inputs) : Type 0 where
+-- all files of a run are accepted, and these are the run's inputs
+pub record GivesAll (Known : IsKnown) (c : RunWords) (inputs : Inputs) : Type 0 where
   pub program : GivesProgram Known c.name (Ok inputs.exe)
   pub schedule : GivesSchedule Known c.schedule (Ok inputs.schedule)
   pub sizes : GivesSizes Known c.config (Ok inputs.sizes)
 
 -- the program was accepted, and the schedule has a fault
-pub record FailsSchedule (Known : IsKnown) (c : Command) (fault : SchedError) : Type 0 where
+pub record FailsSchedule (Known : IsKnown) (c : RunWords) (fault : SchedError) : Type 0 where
   pub exe : Exe
   pub program : GivesProgram Known c.name (Ok exe)
   pub fails : GivesSchedule Known c.schedule (Err fault)
 
 -- program and schedule were accepted, and the configuration has a fault
-pub record FailsConfig (Known : IsKnown) (c : Command) (fault : ConfError) : Type 0 where
+pub record FailsConfig (Known : IsKnown) (c : RunWords) (fault : ConfError) : Type 0 where
   pub exe : Exe
   pub program : GivesProgram Known c.name (Ok exe)
   pub entries : List Entry
   pub schedule : GivesSchedule Known c.schedule (Ok entries)
   pub fails : GivesSizes Known c.config (Err fault)
 
--- what the files of a command give: a run's inputs, or the first fault in the order of program, schedule and configuration
-abbrev pub Gives : IsKnown → Command → Result Inputs Refusal → Type 0
+-- what the files of a run give: a run's inputs, or the first fault in the order of program, schedule and configuration
+abbrev pub Gives : IsKnown → RunWords → Result Inputs Refusal → Type 0
 Gives Known c (Ok inputs) = GivesAll Known c inputs
 Gives Known c (Err (Program fault)) = GivesProgram Known c.name (Err fault)
 Gives Known c (Err (Schedule fault)) = FailsSchedule Known c fault
@@ -91,11 +91,11 @@ Gives Known c (Err (Unread name)) = ⊥
 Gives Known c (Err Memory) = ⊥
 
 -- the words give this name to be loaded
-abbrev pub Names : Command → List ℕ → Type 0
+abbrev pub Names : RunWords → List ℕ → Type 0
 Names c name = (c.name ≡ name) ⊎ ((c.schedule ≡ Some name) ⊎ (c.config ≡ Some name))
 
--- why a command was refused: a fault of a file, a load that failed by the host's count, or want of memory, which is free
-abbrev pub IsCause : (List ℕ → Option (List ℕ)) → (before now : List ℕ → ℕ) → Command → Refusal → Type 0
+-- why a run was refused: a fault of a file, a load that failed by the host's count, or want of memory, which is free
+abbrev pub IsCause : (List ℕ → Option (List ℕ)) → (before now : List ℕ → ℕ) → RunWords → Refusal → Type 0
 IsCause held before now c (Unread name) = Names c name.now × Rose (before name.now) (now name.now)
 IsCause held before now c Memory = Unit {0}
 IsCause held before now c refusal = Gives (IsLoaded held) c (Err refusal)

@@ -9,6 +9,8 @@ pub mod Config
 pub mod Reports
 pub mod Inputs
 pub mod Refusals
+pub mod Printing
+pub mod Commands
 pub mod Top
 pub mod InPart
 pub mod Ends

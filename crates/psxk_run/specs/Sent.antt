@@ -28,6 +28,20 @@ OnlyOn out before now = (o : Out) → o ≢ out → now o ≡ before o
 abbrev pub OnlyReports : (Out → Option (List ℕ)) → (Out → Option (List ℕ)) → Type 0
 OnlyReports before now = OnlyOn Report before now
 
+-- only this output has more: all of this text
+pub record SentAlone (before now : Out → Option (List ℕ)) (out : Out) (text : List ℕ) : Type 0 where
+  pub only : OnlyOn out before now
+  pub whole : Grew (before out) (now out) text
+
+-- only this output has more: a front of this text
+pub record FrontAlone (before now : Out → Option (List ℕ)) (out : Out) (text : List ℕ) : Type 0 where
+  pub only : OnlyOn out before now
+  pub front : GrewFront (before out) (now out) text
+
+-- the text was sent with status 0 and nothing else, or the sending failed with status 6
+abbrev pub SendsText : (Out → Option (List ℕ)) → (Out → Option (List ℕ)) → ℕ → ℕ → Out → List ℕ → ℕ → Type 0
+SendsText before now faults_before faults_now out text status = ((status ≡ 0) × SentAlone before now out text) ⊎ ((status ≡ 6) × Rose faults_before faults_now)
+
 -- the text was reported with a status, or the sending failed with status 6
 abbrev pub Says : (Out → Option (List ℕ)) → (Out → Option (List ℕ)) → ℕ → ℕ → List ℕ → ℕ → ℕ → Type 0
 Says before now faults_before faults_now text status result =

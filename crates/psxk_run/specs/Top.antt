@@ -1,17 +1,20 @@
 -- What the top call leaves.
-use Rattle.std.specs.Prelude.{◌≡◌, ◌⊎◌, ℕ, ◌≤◌, List, Option, Result, Ok, Err}
+use Rattle.std.specs.Prelude.{◌≡◌, ◌⊎◌, ℕ, ◌≤◌, List, Option, Ok}
 use Rattle.psx_base.specs.declared.host.Out.{Out}
 use Rattle.psx_base.specs.declared.host.Out.TheVariants.{Tty, Trace, Ram, Report}
 use Rattle.psx_base.specs.Host.{Rose}
+use Rattle.psx_exe.specs.declared.exe.Exe.{Exe}
 use Rattle.psx_board.specs.Run.{Outcome, board_run}
 use Rattle.kern_image.specs.Rom.{rom}
 use Rattle.psxk_run.specs.declared.inputs.Inputs.{Inputs}
 use Rattle.psxk_run.specs.declared.refusal.Refusal.{Refusal}
-use Rattle.psxk_run.specs.Command.{Command}
-use Rattle.psxk_run.specs.Inputs.{IsLoaded, GivesAll, Gives, Names}
+use Rattle.psxk_run.specs.Command.{RunWords, Command, ToRun, ToImage, ToPrint}
+use Rattle.psxk_run.specs.Commands.{Loads, Refuses}
+use Rattle.psxk_run.specs.Inputs.{IsLoaded, GivesAll, GivesProgram}
 use Rattle.psxk_run.specs.Refusals.{line_of}
 use Rattle.psxk_run.specs.Refusals as refusals
-use Rattle.psxk_run.specs.Sent.{Grew, OnlyReports}
+use Rattle.psxk_run.specs.Printing.{printing}
+use Rattle.psxk_run.specs.Sent.{Grew, OnlyReports, SentAlone, SendsText}
 use Rattle.psxk_run.specs.Texts.{trace_text, ram_text, report_of, status_of}
 use Rattle.psxk_run.specs.Reports.{memory_line, read_line}
 
@@ -27,34 +30,38 @@ abbrev pub run_of : Inputs → ℕ → Outcome
 run_of inputs budget = board_run rom inputs.exe inputs.sizes inputs.schedule budget
 
 -- all files were loaded and accepted, and what the board's run within the budget sends was sent
-pub record Ran {H : Type 0} (holds : H → List ℕ → Option (List ℕ)) (sent : H → Out → Option (List ℕ)) (old new : H) (c : Command) (status : ℕ) : Type 0 where
+pub record Ran {H : Type 0} (holds : H → List ℕ → Option (List ℕ)) (sent : H → Out → Option (List ℕ)) (old new : H) (c : RunWords) (status : ℕ) : Type 0 where
   pub inputs : Inputs
   pub given : GivesAll (IsLoaded (holds old)) c inputs
   pub texts : HasTexts (sent old) (sent new) (run_of inputs c.budget)
   pub success : status ≡ status_of (run_of inputs c.budget).stop
 
+-- the program was loaded and accepted, and the printed words of its text were sent and nothing else
+pub record Printed {H : Type 0} (holds : H → List ℕ → Option (List ℕ)) (sent : H → Out → Option (List ℕ)) (old new : H) (name : List ℕ) (status : ℕ) : Type 0 where
+  pub exe : Exe
+  pub given : GivesProgram (IsLoaded (holds old)) name (Ok exe)
+  pub text : SentAlone (sent old) (sent new) Tty (printing exe)
+  pub success : status ≡ 0
+
+-- what was done for a command: the run, or its text was sent and nothing else
+abbrev pub IsDone : {H : Type 0} → (H → List ℕ → Option (List ℕ)) → (H → Out → Option (List ℕ)) → H → H → Command → ℕ → Type 0
+IsDone holds sent old new (ToRun c) status = Ran holds sent old new c status
+IsDone holds sent old new ToImage status = (status ≡ 0) × SentAlone (sent old) (sent new) Ram rom
+IsDone holds sent old new (ToPrint name) status = Printed holds sent old new name status
+
 -- the files that were loaded have a fault, and the first one was reported with its status
 pub record IsRefused {H : Type 0} (holds : H → List ℕ → Option (List ℕ)) (sent : H → Out → Option (List ℕ)) (old new : H) (c : Command) (status : ℕ) : Type 0 where
   pub refusal : Refusal
-  pub given : Gives (IsLoaded (holds old)) c (Err refusal)
+  pub given : Refuses (IsLoaded (holds old)) c refusal
   pub success : status ≡ refusals.status_of refusal
   pub report : Grew (sent old Report) (sent new Report) (line_of refusal)
 
 -- a name that the words give wasn't loaded: its count rose, and it was reported
 pub record IsUnread {H : Type 0} (load_faults : H → List ℕ → ℕ) (sent : H → Out → Option (List ℕ)) (old new : H) (c : Command) : Type 0 where
   pub name : List ℕ
-  pub named : Names c name
+  pub named : Loads c name
   pub rose : Rose (load_faults old name) (load_faults new name)
   pub report : Grew (sent old Report) (sent new Report) (read_line name)
-
--- a load or a send failed, or memory was wanting
-abbrev pub IsHindered : ℕ → Type 0
-IsHindered status = (status ≡ 5) ⊎ ((status ≡ 6) ⊎ (status ≡ 7))
-
--- the status that files have which give this, where nothing hinders
-abbrev pub Answers : Result Inputs Refusal → ℕ → Type 0
-Answers (Ok inputs) status = (status ≤ 1) ⊎ IsHindered status
-Answers (Err refusal) status = (status ≡ refusals.status_of refusal) ⊎ IsHindered status
 
 -- a status that is answered
 abbrev pub IsStatus : ℕ → Type 0
@@ -81,3 +88,8 @@ WantsMemory before now status = (status ≡ 7) × OnlyReports before now × Grew
 abbrev pub RunsProgram : (Out → Option (List ℕ)) → (Out → Option (List ℕ)) → ℕ → ℕ → Outcome → ℕ → Type 0
 RunsProgram before now faults_before faults_now o status =
     WantsMemory before now status ⊎ RunsBoard before now faults_before faults_now o status
+
+-- how a text is sent that has to be made first: sent, or where a sending failed, or for want of memory with nothing sent but the report
+abbrev pub MakesText : (Out → Option (List ℕ)) → (Out → Option (List ℕ)) → ℕ → ℕ → Out → List ℕ → ℕ → Type 0
+MakesText before now faults_before faults_now out text status =
+    WantsMemory before now status ⊎ SendsText before now faults_before faults_now out text status

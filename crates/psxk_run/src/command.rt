@@ -1,8 +1,8 @@
 //! What the words of the command line ask for.
 ghost use Rattle.std.specs.Prelude.{◌≡◌, ◌<◌, ◌≤◌, ◌+◌, ◌*◌, ◌-◌, ◌^◌, ℕ, List, [], ◌∷◌, map, IfSome};
 ghost use Rattle.std.specs.Option.{option_map};
-ghost use Rattle.psxk_run.specs.Command.{budget_of, value_of, schedule_of, asked, command_of};
-ghost use Rattle.psxk_run.specs.Told.{told, word_of};
+ghost use Rattle.psxk_run.specs.Command.{budget_of, value_of, schedule_of, alone, with_name, asked, with_files, command_of};
+ghost use Rattle.psxk_run.specs.Told.{told, word_of, HasBudget};
 ghost use Rattle.psxk_run.specs.Words.{words_of};
 
 /// A run of a program.
@@ -16,6 +16,17 @@ pub struct Run<'a> {
     pub budget: u32,
     /// The name that the configuration is loaded by; None is that of 4 threads and 16 events.
     pub config: Option<&'a str>,
+}
+
+/// What the words ask for.
+#[derive(Clone, Copy, Debug)]
+pub enum Request<'a> {
+    /// `run`: a run of a program.
+    Run(Run<'a>),
+    /// `image`: the bytes of the ROM.
+    Image,
+    /// `dis`: the printed words of the program that is loaded by this name.
+    Print(&'a str),
 }
 
 // The number that the digits give.
@@ -60,36 +71,82 @@ fn schedule_name<'a>(word: &'a str) -> Option<&'a str>
     if word == "-" { None } else { Some(word) }
 }
 
+// What a word alone asks for.
+fn alone<'a>(word: &str) -> Option<Request<'a>>
+    ensures asked { option_map told result ≡ alone word.now }
+    ensures budget { IfSome result HasBudget }
+{
+    if word == "image" {
+        Some(Request::Image)
+    } else {
+        None
+    }
+}
+
+// What a word and a name ask for.
+fn with_name<'a>(word: &str, name: &'a str) -> Option<Request<'a>>
+    ensures asked { option_map told result ≡ with_name word.now name.now }
+    ensures budget { IfSome result HasBudget }
+{
+    if word == "dis" {
+        Some(Request::Print(name))
+    } else {
+        None
+    }
+}
+
 // A run by its words.
 fn run_of<'a>(
     name: &'a str,
     schedule: &'a str,
     number: &str,
     config: Option<&'a str>,
-) -> Option<Run<'a>>
+) -> Option<Request<'a>>
     ensures asked { option_map told result ≡ asked name.now schedule.now (word_of config.entry) (budget_of number.now) }
-    ensures budget { IfSome result (λ r. 0 < r.budget) }
+    ensures budget { IfSome result HasBudget }
 {
     let budget = budget(number)?;
-    Some(Run {
+    Some(Request::Run(Run {
         name,
         schedule: schedule_name(schedule),
         budget,
         config,
-    })
+    }))
 }
 
-/// The run that the words ask for: `run EXE SCHED BUDGET` or `run EXE SCHED BUDGET CNF`.
+// What a word, the names of files and a number ask for.
+fn with_files<'a>(
+    word: &str,
+    name: &'a str,
+    schedule: &'a str,
+    number: &str,
+    config: Option<&'a str>,
+) -> Option<Request<'a>>
+    ensures asked { option_map told result ≡ with_files word.now name.now schedule.now number.now (word_of config.entry) }
+    ensures budget { IfSome result HasBudget }
+{
+    if word == "run" {
+        run_of(name, schedule, number, config)
+    } else {
+        None
+    }
+}
+
+/// What the words ask for: `run EXE SCHED BUDGET` or `run EXE SCHED BUDGET CNF`, `image` or `dis EXE`.
 #[tactic(auto, unfolding(crate::specs::Command::command_of))]
-pub fn command<'a>(words: &[&'a str]) -> Option<Run<'a>>
+pub fn command<'a>(words: &[&'a str]) -> Option<Request<'a>>
     ensures asked { option_map told result ≡ command_of (words_of words.now) }
-    ensures budget { IfSome result (λ r. 0 < r.budget) }
+    ensures budget { IfSome result HasBudget }
 {
     match words {
-        [word, name, schedule, number] if *word == "run" => run_of(name, schedule, number, None),
-        [word, name, schedule, number, config] if *word == "run" => {
-            run_of(name, schedule, number, Some(config))
+        [] => None,
+        [word] => alone(word),
+        [word, name] => with_name(word, name),
+        [_, _, _] => None,
+        [word, name, schedule, number] => with_files(word, name, schedule, number, None),
+        [word, name, schedule, number, config] => {
+            with_files(word, name, schedule, number, Some(config))
         }
-        _ => None,
+        [_, _, _, _, _, _, ..] => None,
     }
 }

@@ -1,11 +1,11 @@
-//! The files that a command names, and the run that they give.
+//! The files that a run names, and what they give.
 ghost use Rattle.std.specs.Prelude.{◌≡◌, ◌≢◌, ◌⊎◌, ◌≤◌, ◌+◌, ℕ, List, Option, Ok, Err, IfOk, IfErr, IsTrue, ◌↔◌};
 ghost use Rattle.psx_base.specs.Host.{Rose, IsFront};
 ghost use Rattle.psx_base.specs.declared.host.Out.{Out};
 ghost use Rattle.psx_exe.specs.Reading.{IsReadable};
 ghost use Rattle.psxk_run.specs.Inputs.{IsLoaded, GivesProgram, GivesSchedule, GivesSizes, GivesAll, IsCause, IsRunnable, IsUnreadOf, OfProgram, OfSchedule, OfSizes};
 ghost use Rattle.psxk_run.specs.Sent.{GoesOn};
-ghost use Rattle.psxk_run.specs.Told.{told, word_of};
+ghost use Rattle.psxk_run.specs.Told.{told_run, word_of};
 
 use crate::command::Run;
 use crate::configuration::config;
@@ -64,8 +64,12 @@ fn exe_refusal<'a>(error: ExeError) -> Refusal<'a>
     }
 }
 
-// Loads a program.
-fn load_exe<'a, H: Host>(alloc: Global, host: &mut H, name: &'a str) -> Result<Exe, Refusal<'a>>
+/// Loads a program.
+pub(crate) fn load_exe<'a, H: Host>(
+    alloc: Global,
+    host: &mut H,
+    name: &'a str,
+) -> Result<Exe, Refusal<'a>>
     ensures program { IfOk result (λ exe. GivesProgram (IsLoaded (H.holds host.old)) name.now (Ok exe)) }
     ensures readable { IfOk result IsReadable }
     ensures cause { IfErr result (OfProgram (H.holds host.old) (H.load_faults host.old) (H.load_faults host.new) name.now) }
@@ -148,15 +152,15 @@ fn load_sizes<'a, H: Host>(
     }
 }
 
-/// Loads the files of a command, in the order of program, schedule and configuration.
+/// Loads the files of a run, in the order of program, schedule and configuration.
 pub(crate) fn prepare<'a, H: Host>(
     alloc: Global,
     host: &mut H,
     run: Run<'a>,
 ) -> Result<Inputs, Refusal<'a>>
-    ensures given { IfOk result (GivesAll (IsLoaded (H.holds host.old)) (told run.entry)) }
+    ensures given { IfOk result (GivesAll (IsLoaded (H.holds host.old)) (told_run run.entry)) }
     ensures runnable { IfOk result IsRunnable }
-    ensures cause { IfErr result (IsCause (H.holds host.old) (H.load_faults host.old) (H.load_faults host.new) (told run.entry)) }
+    ensures cause { IfErr result (IsCause (H.holds host.old) (H.load_faults host.old) (H.load_faults host.new) (told_run run.entry)) }
     ensures sent { (o : Out) → H.sent host.new o ≡ H.sent host.old o }
     ensures on { GoesOn H.holds H.load_faults H.send_faults host.old host.new }
 {

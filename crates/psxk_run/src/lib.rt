@@ -8,6 +8,7 @@ pub mod inputs;
 mod items;
 mod lines;
 mod pieces;
+mod printing;
 pub mod refusal;
 mod report;
 pub mod run;

@@ -1,5 +1,5 @@
 //! The words of the command line and the call that they make; the configuration text.
-use crate::command::{budget, command};
+use crate::command::{Request, budget, command};
 use crate::configuration::config;
 use crate::{ConfError, psxk};
 use psx_base::{NoFailHost, Sizes};
@@ -9,13 +9,14 @@ fn reads_the_words(rt: HostRuntime) {
     assert_eq!(rt; budget("2000000"), Some(2_000_000));
     assert_eq!(rt; budget("4000000001"), None);
     assert_eq!(rt; budget("010"), None);
-    let run = command(&["run", "a", "-", "20"]);
-    assert_eq!(rt; run.map(|run| (run.schedule, run.budget)), Some((None, 20)));
-    let run = command(&["run", "a", "b", "20", "c"]);
-    assert_eq!(rt;
-        run.map(|run| (run.schedule, run.config)),
-        Some((Some("b"), Some("c")))
-    );
+    let Some(Request::Run(run)) = command(&["run", "a", "-", "20"]) else {
+        panic!(rt; "a run");
+    };
+    assert_eq!(rt; (run.schedule, run.budget), (None, 20));
+    let Some(Request::Run(run)) = command(&["run", "a", "b", "20", "c"]) else {
+        panic!(rt; "a run");
+    };
+    assert_eq!(rt; (run.schedule, run.config), (Some("b"), Some("c")));
 }
 
 #[test]

@@ -1,31 +1,35 @@
 //! The top call: all that the program does.
-ghost use Rattle.std.specs.Prelude.{◌≡◌, false, ◌⊎◌, ◌<◌, ◌≤◌, ℕ, Result, IfSome, IsNone, Ok, Err};
+ghost use Rattle.std.specs.Prelude.{◌≡◌, false, ◌⊎◌, ◌<◌, IfSome, IsNone};
 ghost use Rattle.psx_base.specs.Host.{Rose};
 ghost use Rattle.psx_base.specs.declared.host.Out.{Out};
 ghost use Rattle.psx_board.specs.Machine.{Machine};
 ghost use Rattle.psx_board.specs.Run.{run};
 ghost use Rattle.psx_board.specs.Stands.{Stands};
-ghost use Rattle.psxk_run.specs.declared.inputs.Inputs.{Inputs};
-ghost use Rattle.psxk_run.specs.declared.refusal.Refusal.{Refusal};
-ghost use Rattle.psxk_run.specs.Command.{command_of};
+ghost use Rattle.kern_image.specs.Rom.{rom};
+ghost use Rattle.psx_exe.specs.Reading.{IsReadable};
+ghost use Rattle.psxk_run.specs.Command.{command_of, ToRun, ToPrint};
+ghost use Rattle.psxk_run.specs.Commands.{Decides};
+ghost use Rattle.psxk_run.specs.Printing.{printing};
 ghost use Rattle.psxk_run.specs.Ends.{Ends, moment};
-ghost use Rattle.psxk_run.specs.InPart.{HasFronts, ReportsFront, WordsInPart};
-ghost use Rattle.psxk_run.specs.Inputs.{IsTold, IsRunnable, Gives};
+ghost use Rattle.psxk_run.specs.InPart.{HasFronts, ReportsFront, TextInPart, WordsInPart};
+ghost use Rattle.psxk_run.specs.Inputs.{IsRunnable};
 ghost use Rattle.psxk_run.specs.Reports.{usage_line, memory_line};
-ghost use Rattle.psxk_run.specs.Sent.{Grew, GrewFront, GoesOn, OnlyReports, Says};
+ghost use Rattle.psxk_run.specs.Sent.{Grew, GrewFront, GoesOn, OnlyReports, FrontAlone, Says, SendsText};
 ghost use Rattle.psxk_run.specs.Texts.{report_of, status_of};
-ghost use Rattle.psxk_run.specs.Told.{told};
-ghost use Rattle.psxk_run.specs.Top.{Ran, IsRefused, IsUnread, IsFaulty, IsQuiet, IsStatus, Answers, RunsBoard, RunsProgram, run_of};
+ghost use Rattle.psxk_run.specs.Told.{told, told_run, HasBudget};
+ghost use Rattle.psxk_run.specs.Top.{IsDone, IsRefused, IsUnread, IsFaulty, IsQuiet, IsStatus, RunsBoard, RunsProgram, MakesText, run_of};
 ghost use Rattle.psxk_run.specs.Words.{words_of, IfCommand};
 
-use crate::command::{Run, command};
-use crate::inputs::{Inputs, prepare};
+use crate::command::{Request, Run, command};
+use crate::inputs::{Inputs, load_exe, prepare};
+use crate::printing::printing;
 use crate::refusal::{refuse, say, say_memory};
 use crate::report::stop_line;
 use crate::run::{RunEnd, run_on};
 use kern_image::build;
-use psx_base::{Host, Stop};
+use psx_base::{Host, Out, Stop};
 use psx_board::Board;
+use psx_exe::Exe;
 use std::alloc::Global;
 
 const USAGE: &[u8] = b"psxk: usage: run EXE SCHED BUDGET [CNF], image, asm TEXT, dis EXE, gen N\n";
@@ -100,10 +104,10 @@ fn run_program<H: Host>(alloc: Global, host: &mut H, inputs: Inputs, budget: u32
     }
 }
 
-// Does what a command asks for.
-fn run_command<H: Host>(alloc: Global, host: &mut H, run: Run) -> u8
+// Runs the program of a run's files.
+fn run_files<H: Host>(alloc: Global, host: &mut H, run: Run) -> u8
     requires { 0 < run.budget }
-    ensures ends { Ends (moment H.holds H.sent H.load_faults H.send_faults host.old) (moment H.holds H.sent H.load_faults H.send_faults host.new) (told run.entry) result }
+    ensures ends { Ends (moment H.holds H.sent H.load_faults H.send_faults host.old) (moment H.holds H.sent H.load_faults H.send_faults host.new) (ToRun (told_run run.entry)) result }
     ensures on { GoesOn H.holds H.load_faults H.send_faults host.old host.new }
 {
     match prepare(alloc, host, run) {
@@ -112,21 +116,82 @@ fn run_command<H: Host>(alloc: Global, host: &mut H, run: Run) -> u8
     }
 }
 
+// Sends a text of a command, and answers the status.
+fn send_text<H: Host>(host: &mut H, out: Out, text: &[u8]) -> u8
+    ensures sends { SendsText (H.sent host.old) (H.sent host.new) (H.send_faults host.old) (H.send_faults host.new) out text.now result }
+    ensures front { FrontAlone (H.sent host.old) (H.sent host.new) out text.now }
+    ensures on { GoesOn H.holds H.load_faults H.send_faults host.old host.new }
+{
+    match host.send(out, text) {
+        Ok(()) => 0,
+        Err(_) => 6,
+    }
+}
+
+// Sends the ROM.
+fn send_image<H: Host>(alloc: Global, host: &mut H) -> u8
+    ensures sends { MakesText (H.sent host.old) (H.sent host.new) (H.send_faults host.old) (H.send_faults host.new) Out.Ram rom result }
+    ensures front { TextInPart (H.sent host.old) (H.sent host.new) Out.Ram rom }
+    ensures on { GoesOn H.holds H.load_faults H.send_faults host.old host.new }
+{
+    match build(alloc) {
+        Ok(image) => send_text(host, Out::Ram, image.rom()),
+        Err(_) => say_memory(host),
+    }
+}
+
+// Sends the printed words of a program.
+fn send_printing<H: Host>(alloc: Global, host: &mut H, exe: &Exe) -> u8
+    requires { IsReadable exe.now }
+    ensures sends { MakesText (H.sent host.old) (H.sent host.new) (H.send_faults host.old) (H.send_faults host.new) Out.Tty (printing exe.now) result }
+    ensures front { TextInPart (H.sent host.old) (H.sent host.new) Out.Tty (printing exe.now) }
+    ensures on { GoesOn H.holds H.load_faults H.send_faults host.old host.new }
+{
+    match printing(alloc, exe) {
+        Ok(text) => send_text(host, Out::Tty, text.as_bytes()),
+        Err(_) => say_memory(host),
+    }
+}
+
+// Prints the words of a program's file.
+fn print_file<H: Host>(alloc: Global, host: &mut H, name: &str) -> u8
+    ensures ends { Ends (moment H.holds H.sent H.load_faults H.send_faults host.old) (moment H.holds H.sent H.load_faults H.send_faults host.new) (ToPrint name.now) result }
+    ensures on { GoesOn H.holds H.load_faults H.send_faults host.old host.new }
+{
+    match load_exe(alloc, host, name) {
+        Ok(exe) => send_printing(alloc, host, &exe),
+        Err(refusal) => refuse(host, refusal),
+    }
+}
+
+// Does what the words ask for.
+fn run_command<H: Host>(alloc: Global, host: &mut H, request: Request) -> u8
+    requires { HasBudget request }
+    ensures ends { Ends (moment H.holds H.sent H.load_faults H.send_faults host.old) (moment H.holds H.sent H.load_faults H.send_faults host.new) (told request.entry) result }
+    ensures on { GoesOn H.holds H.load_faults H.send_faults host.old host.new }
+{
+    match request {
+        Request::Run(run) => run_files(alloc, host, run),
+        Request::Image => send_image(alloc, host),
+        Request::Print(name) => print_file(alloc, host, name),
+    }
+}
+
 /// All that the program does: from the words behind its name to the status that it ends with.
 ///
-/// Statuses: 0 the run ended with Exit or Budget, 1 with another stop; 2 the words are in no command's form; 3 the program has a fault, 4 the schedule,
+/// Statuses: 0 the command was done, a run with Exit or Budget, 1 the run with another stop; 2 the words are in no command's form; 3 the program has a fault, 4 the schedule,
 /// 9 the configuration; 5 a file wasn't read; 6 a sending failed; 7 want of memory. A report is one line.
 pub fn psxk<H: Host>(alloc: Global, words: &[&str], host: &mut H) -> u8
     ensures listed { IsStatus result }
 
-    // With status 0 or 1 all files were loaded and accepted, and exactly their run's texts were sent.
-    ensures done { (result ≡ 0) ⊎ (result ≡ 1) → IfCommand words.now (λ c. Ran H.holds H.sent host.old host.new c result) }
+    // With status 0 or 1 all files were loaded and accepted, and exactly the texts of their run, or the one text of the command, were sent.
+    ensures done { (result ≡ 0) ⊎ (result ≡ 1) → IfCommand words.now (λ c. IsDone H.holds H.sent host.old host.new c result) }
 
     // The other statuses have their causes. What a host tells of its files decides, but for a load or a sending that failed and want of memory.
     ensures usage { result ≡ 2 → IsNone (command_of (words_of words.now)) }
     ensures usage_only { IsNone (command_of (words_of words.now)) → (result ≡ 2) ⊎ (result ≡ 6) }
     ensures refused { IsFaulty result → IfCommand words.now (λ c. IsRefused H.holds H.sent host.old host.new c result) }
-    ensures only { IfSome (command_of (words_of words.now)) (λ c. (answer : Result Inputs Refusal) → Gives (IsTold (H.holds host.old)) c answer → Answers answer result) }
+    ensures only { IfSome (command_of (words_of words.now)) (λ c. Decides (H.holds host.old) c result) }
     ensures read { result ≡ 5 → IfCommand words.now (λ c. IsUnread H.load_faults H.sent host.old host.new c) }
     ensures write { result ≡ 6 → Rose (H.send_faults host.old) (H.send_faults host.new) }
 
@@ -140,7 +205,7 @@ pub fn psxk<H: Host>(alloc: Global, words: &[&str], host: &mut H) -> u8
     ensures on { GoesOn H.holds H.load_faults H.send_faults host.old host.new }
 {
     match command(words) {
-        Some(run) => run_command(alloc, host, run),
+        Some(request) => run_command(alloc, host, request),
         None => say(host, USAGE, 2),
     }
 }
