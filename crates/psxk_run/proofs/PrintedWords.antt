@@ -4,7 +4,7 @@ use Rattle.std.proofs.lemmas.List.FromFn.{length-map-range_with_len}
 use Rattle.psx_base.specs.FirstBad.{first_bad_of}
 use Rattle.psx_base.proofs.Ranges.{end_of-below}
 use Rattle.psx_exe.specs.declared.exe.Exe.{Exe}
-use Rattle.psx_exe.specs.Reading.{IsReadable}
+use Rattle.abs_run.specs.Accepted.{IsAccepted}
 use Rattle.psx_exe.proofs.Placing.{safe, user_first, bounded}
 use Rattle.psxk_run.specs.Printing.{word_at, word_count, words_of}
 
@@ -23,10 +23,10 @@ pub length-words_of : (e : Exe) → length (words_of e) ≡ word_count e
 unfolding words_of
 length-words_of e = length-map-range_with_len (word_at e) 0 (word_count e)
 
-pub words_end : (e : Exe) → IsReadable e → e.dest < 2 ^ 32 → e.dest - e.dest % 4 + 4 * length (words_of e) ≤ 2 ^ 32
+pub words_end : (e : Exe) → IsAccepted e → e.dest < 2 ^ 32 → e.dest - e.dest % 4 + 4 * length (words_of e) ≤ 2 ^ 32
 words_end e r small =
-    let s = safe e r in
+    let s = safe e r.readable in
     rw (length-words_of e) (whole-words e.dest (length e.text) small (range-end e.dest (length e.text) small s.text))
 
-pub few : (e : Exe) → IsReadable e → length e.text ≤ 2 ^ 23
-few e r = let fits = (safe e r).fits in omega arith
+pub few : (e : Exe) → IsAccepted e → length e.text ≤ 2 ^ 23
+few e r = let fits = (safe e r.readable).fits in omega arith

@@ -7,7 +7,8 @@ use Rattle.psx_sched.specs.declared.fault.SchedError.{SchedError}
 use Rattle.psx_sched.specs.Accepted.{IsScheduleOf}
 use Rattle.psx_exe.specs.declared.exe.Exe.{Exe}
 use Rattle.psx_exe.specs.declared.fault.ExeError.{ExeError}
-use Rattle.psx_exe.specs.Reading.{read_of, IsReadable}
+use Rattle.psx_exe.specs.Reading.{read_of}
+use Rattle.abs_run.specs.Accepted.{IsAccepted, AreBytes}
 use Rattle.psxk_run.specs.declared.configuration.ConfError.{ConfError}
 use Rattle.psxk_run.specs.declared.inputs.Inputs.{Inputs}
 use Rattle.psxk_run.specs.declared.refusal.Refusal.{Refusal}
@@ -100,9 +101,10 @@ IsCause held before now c (Unread name) = Names c name.now × Rose (before name.
 IsCause held before now c Memory = Unit {0}
 IsCause held before now c refusal = Gives (IsLoaded held) c (Err refusal)
 
--- the inputs that a board may be made from
+-- the inputs that a board may be made from, and with which its runs are kernel runs
 pub record IsRunnable (inputs : Inputs) : Type 0 where
-  pub readable : IsReadable inputs.exe
+  pub accepted : IsAccepted inputs.exe
+  pub bytes : AreBytes inputs.schedule
   pub threads : (4 ≤ inputs.sizes.threads) × (inputs.sizes.threads ≤ 16)
   pub events : (16 ≤ inputs.sizes.events) × (inputs.sizes.events ≤ 64)
 

@@ -1,8 +1,9 @@
 //! The files that a run names, and what they give.
-ghost use Rattle.std.specs.Prelude.{◌≡◌, ◌≢◌, ◌⊎◌, ◌≤◌, ◌+◌, ℕ, List, Option, Ok, Err, IfOk, IfErr, IsTrue, ◌↔◌};
+ghost use Rattle.std.specs.Prelude.{◌≡◌, ◌≢◌, ◌⊎◌, ◌≤◌, ◌<◌, ◌+◌, ◌^◌, All, ℕ, List, Option, Ok, Err, IfOk, IfErr, IsTrue, ◌↔◌};
 ghost use Rattle.psx_base.specs.Host.{Rose, IsFront};
 ghost use Rattle.psx_base.specs.declared.host.Out.{Out};
 ghost use Rattle.psx_exe.specs.Reading.{IsReadable};
+ghost use Rattle.abs_run.specs.Accepted.{IsAccepted, AreBytes};
 ghost use Rattle.psxk_run.specs.Inputs.{IsLoaded, GivesProgram, GivesSchedule, GivesSizes, GivesAll, IsCause, IsRunnable, IsUnreadOf, OfProgram, OfSchedule, OfSizes};
 ghost use Rattle.psxk_run.specs.Sent.{GoesOn};
 ghost use Rattle.psxk_run.specs.Told.{told_run, word_of};
@@ -64,6 +65,22 @@ fn exe_refusal<'a>(error: ExeError) -> Refusal<'a>
     }
 }
 
+// The bytes of a text are bytes: it does nothing, as the function below.
+fn are_bytes(text: &[u8])
+    ensures { All (λ b. b < 2 ^ 8) text.now }
+{
+    let _len = text.len();
+}
+
+// A program that was read is accepted: its numbers are words, and its text is bytes.
+fn accepted(exe: &Exe)
+    requires { IsReadable exe.now }
+    ensures { IsAccepted exe.now }
+{
+    let _gp = exe.gp;
+    are_bytes(exe.text.as_slice());
+}
+
 /// Loads a program.
 pub(crate) fn load_exe<'a, H: Host>(
     alloc: Global,
@@ -71,7 +88,7 @@ pub(crate) fn load_exe<'a, H: Host>(
     name: &'a str,
 ) -> Result<Exe, Refusal<'a>>
     ensures program { IfOk result (λ exe. GivesProgram (IsLoaded (H.holds host.old)) name.now (Ok exe)) }
-    ensures readable { IfOk result IsReadable }
+    ensures accepted { IfOk result IsAccepted }
     ensures cause { IfErr result (OfProgram (H.holds host.old) (H.load_faults host.old) (H.load_faults host.new) name.now) }
     ensures sent { (o : Out) → H.sent host.new o ≡ H.sent host.old o }
     ensures on { GoesOn H.holds H.load_faults H.send_faults host.old host.new }
@@ -81,7 +98,10 @@ pub(crate) fn load_exe<'a, H: Host>(
         Err(refusal) => return Err(refusal),
     };
     match Exe::read(alloc, &bytes) {
-        Ok(exe) => Ok(exe),
+        Ok(exe) => {
+            accepted(&exe);
+            Ok(exe)
+        }
         Err(error) => Err(exe_refusal(error)),
     }
 }
@@ -106,6 +126,7 @@ fn load_schedule<'a, H: Host>(
     name: Option<&'a str>,
 ) -> Result<Schedule, Refusal<'a>>
     ensures schedule { IfOk result (λ entries. GivesSchedule (IsLoaded (H.holds host.old)) (word_of name.entry) (Ok entries)) }
+    ensures bytes { IfOk result AreBytes }
     ensures cause { IfErr result (OfSchedule (H.holds host.old) (H.load_faults host.old) (H.load_faults host.new) (word_of name.entry)) }
     ensures sent { (o : Out) → H.sent host.new o ≡ H.sent host.old o }
     ensures on { GoesOn H.holds H.load_faults H.send_faults host.old host.new }

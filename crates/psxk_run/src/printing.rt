@@ -1,7 +1,7 @@
 //! The command `dis`: the printed words of a program's text.
 ghost use Rattle.std.specs.Prelude.{◌≡◌, ◌⊎◌, ◌<◌, ◌≤◌, ◌+◌, ◌-◌, ◌*◌, ◌/◌, ◌%◌, ◌^◌, ℕ, List, IfOk, length};
 ghost use Rattle.std.specs.String.{string_bytes};
-ghost use Rattle.psx_exe.specs.Reading.{IsReadable};
+ghost use Rattle.abs_run.specs.Accepted.{IsAccepted};
 ghost use Rattle.psxk_run.specs.Printing.{byte_at, word_at, word_count, words_of, printing};
 
 use psx_base::Memory;
@@ -51,7 +51,7 @@ fn words_of(alloc: Global, exe: &Exe) -> Result<Vec<u32>, AllocError>
 /// The text that `dis` sends of a program.
 #[tactic(auto, using(crate::proofs::PrintedWords::few, crate::proofs::PrintedWords::words_end))]
 pub(crate) fn printing(alloc: Global, exe: &Exe) -> Result<String, Memory>
-    requires { IsReadable exe.now }
+    requires { IsAccepted exe.now }
     ensures { IfOk result (λ text. string_bytes text ≡ printing exe.now) }
 {
     match words_of(alloc, exe) {

@@ -6,7 +6,7 @@ ghost use Rattle.psx_board.specs.Machine.{Machine};
 ghost use Rattle.psx_board.specs.Run.{run};
 ghost use Rattle.psx_board.specs.Stands.{Stands};
 ghost use Rattle.kern_image.specs.Rom.{rom};
-ghost use Rattle.psx_exe.specs.Reading.{IsReadable};
+ghost use Rattle.abs_run.specs.Accepted.{IsAccepted};
 ghost use Rattle.psxk_run.specs.Command.{command_of, ToRun, ToPrint};
 ghost use Rattle.psxk_run.specs.Commands.{Decides};
 ghost use Rattle.psxk_run.specs.Printing.{printing};
@@ -142,7 +142,7 @@ fn send_image<H: Host>(alloc: Global, host: &mut H) -> u8
 
 // Sends the printed words of a program.
 fn send_printing<H: Host>(alloc: Global, host: &mut H, exe: &Exe) -> u8
-    requires { IsReadable exe.now }
+    requires { IsAccepted exe.now }
     ensures sends { MakesText (H.sent host.old) (H.sent host.new) (H.send_faults host.old) (H.send_faults host.new) Out.Tty (printing exe.now) result }
     ensures front { TextInPart (H.sent host.old) (H.sent host.new) Out.Tty (printing exe.now) }
     ensures on { GoesOn H.holds H.load_faults H.send_faults host.old host.new }
