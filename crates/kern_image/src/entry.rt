@@ -1,6 +1,12 @@
 //! The words of the exception vector, of the gates and of the entry code behind them.
 //! Each line has the word, the low half of its address, and its assembly. The instruction behind a load neither reads nor writes its register (R3000A manual, load delay).
 
+ghost use Rattle.std.specs.Prelude.{ℕ};
+ghost use Rattle.kern_layout.specs.BlockWords.{IsBlock};
+ghost use Rattle.kern_image.specs.Entry.{entry_word};
+
+use kern_layout::KernelBlock;
+
 /// The exception vector at 80000080h: a jump to the entry code (R3000A manual, exception vectors).
 pub const VECTOR: [u32; 2] = [
     0x08000400, // 0080  j entry
@@ -101,3 +107,23 @@ pub const ENTRY: [u32; 71] = [
     0x241A0002, // 1114  addiu k0, r0, 2
     0xAF7A2114, // 1118  sw k0, 0x2114(k1)        halt: Exception
 ];
+
+fn put_words(block: &mut KernelBlock, at: u32, words: &[u32]) {
+    let mut place = at;
+    for word in words {
+        block.put_word(place, *word);
+        place += 4;
+    }
+}
+
+pub fn place(block: &mut KernelBlock)
+    ensures { (w : ℕ → ℕ) → IsBlock block.old w → IsBlock block.new (entry_word w) }
+{
+    put_words(block, 0x1000, &ENTRY);
+    put_words(block, 0xE0, &GATE);
+    put_words(block, 0xD0, &GATE);
+    put_words(block, 0xC0, &GATE);
+    put_words(block, 0xB0, &GATE);
+    put_words(block, 0xA0, &GATE);
+    put_words(block, 0x80, &VECTOR);
+}
