@@ -1,0 +1,12 @@
+//! The entry into the kernel and the way back: the exception vector, the gates, what saves a context and takes it up, the choice of the routine, and the first calls.
+//! All of it is listings at the public addresses of places.rt, but for the two words that leave the kernel.
+#![tactic(auto)]
+
+pub mod area;
+pub mod calls;
+pub mod leave;
+mod place;
+pub mod places;
+pub mod save;
+pub mod stops;
+pub mod sys;
