@@ -5,8 +5,13 @@
 pub mod area;
 pub mod calls;
 pub mod leave;
-mod place;
+mod placing;
 pub mod places;
 pub mod save;
 pub mod stops;
 pub mod sys;
+
+#[cfg(test)]
+mod tests;
+
+pub use placing::place;
