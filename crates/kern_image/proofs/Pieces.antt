@@ -4,7 +4,7 @@ use Rattle.std.specs.Prelude.{nat_le, nat_lt, nat_eq, ◌&&◌, ◌||◌}
 use Rattle.std.specs.List.{list_all, list_any}
 use Rattle.std.proofs.lemmas.Bool.{and_parts, leb-true, ltb-true, eqb-true, cases_lt}
 use Rattle.std.proofs.lemmas.List.Sums.{AllPass-from_list_all}
-use Rattle.kern_image.specs.Entry.{over, overlaid}
+use Rattle.kern_entry.specs.Words.{over, overlaid}
 use Rattle.kern_image.specs.RomLaws.{Stand}
 
 over-within : (at : ℕ) (ws : List ℕ) (f : ℕ → ℕ) (a : ℕ) → at ≤ a → a < at + 4 * length ws → over at ws f a ≡ get_or ws ((a - at) / 4) 0

@@ -3,7 +3,7 @@ use Rattle.std.specs.Prelude.{ℕ, ◌-◌, ◌*◌, ◌/◌, List, flat_map, sl
 use Rattle.byteorder.specs.Endian.{little_bytes}
 use Rattle.kern_layout.specs.Numbers.{threads_at}
 use Rattle.kern_layout.specs.Opening.{opening_at}
-use Rattle.kern_image.specs.Entry.{entry_word}
+use Rattle.kern_entry.specs.EntryWords.{entry_word}
 use Rattle.kern_image.specs.Words.{listed}
 use Rattle.kern_image.specs.declared.boot.TheConstants.{BOOT}
 

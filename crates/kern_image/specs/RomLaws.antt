@@ -3,7 +3,7 @@ use Rattle.std.specs.Prelude.{◌≡◌, ℕ, ◌+◌, ◌*◌, ◌%◌, ◌^◌
 use Rattle.psx_base.specs.Memory.{Memory, byte, word}
 use Rattle.kern_layout.specs.Opening.{Opens}
 use Rattle.kern_layout.specs.Stands.{HoldsRom, is_fixed}
-use Rattle.kern_image.specs.Entry.{pieces}
+use Rattle.kern_entry.specs.EntryWords.{pieces}
 use Rattle.kern_image.specs.Words.{word_of}
 use Rattle.kern_image.specs.Rom.{kernel_word, rom, rom_word}
 use Rattle.kern_image.specs.declared.boot.TheConstants.{BOOT}

@@ -5,8 +5,8 @@ ghost use Rattle.kern_layout.specs.BlockWords.{IsBlock};
 ghost use Rattle.kern_image.specs.Rom.{kernel_word, rom, rom_word, rom_words};
 
 use crate::boot::BOOT;
-use crate::entry::place;
 use byteorder::{ByteOrder, LittleEndian};
+use kern_entry::place;
 use kern_layout::{KernelBlock, put_opening};
 use psx_base::Memory;
 use std::alloc::{AllocError, Global};

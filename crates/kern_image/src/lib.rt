@@ -3,7 +3,6 @@
 #![tactic(auto)]
 
 pub mod boot;
-mod entry;
 pub mod image;
 pub mod laws;
 #[cfg(test)]
