@@ -1,7 +1,9 @@
 -- Words as bytes, one after the other.
-use Rattle.std.proofs.Common.{◌≡◌, ℕ, zero, suc, ◌+◌, ◌*◌, ◌/◌, ◌%◌, ◌^◌, ◌<◌, List, [], ◌∷◌, length, map, refl, sym, ap, ◌∙◌, arith, get_or}
+use Rattle.std.proofs.Common.{◌≡◌, ℕ, zero, suc, ◌+◌, ◌*◌, ◌/◌, ◌%◌, ◌^◌, ◌<◌, List, [], ◌∷◌, length, map, refl, sym, ap, ⊎_elim, ◌∙◌, arith, get_or}
 use Rattle.std.specs.Prelude.{flat_map}
 use Rattle.std.proofs.lemmas.List.FromFn.{fill_by_all, get_or-map-range_with_len, length-map-range_with_len}
+use Rattle.std.proofs.lemmas.Bool.{cases_lt}
+use Rattle.std.proofs.lemmas.List.{get_or_past}
 use Rattle.byteorder.specs.Endian.{little_bytes}
 use Rattle.kern_image.specs.Words.{listed, word_of}
 
@@ -53,10 +55,13 @@ byte_small x (suc (suc zero)) = omega arith
 byte_small x (suc (suc (suc zero))) = omega arith
 byte_small x (suc (suc (suc (suc j)))) = omega arith
 
--- the bytes are bytes
-pub bytes_small : (ws : List ℕ) (i : ℕ) → i < 4 * length ws → get_or (flat_map (little_bytes 4) ws) i 0 < 2 ^ 8
-bytes_small ws i low =
+some : (ws : List ℕ) (i : ℕ) → i < 4 * length ws → get_or (flat_map (little_bytes 4) ws) i 0 < 2 ^ 8
+some ws i low =
     let e : 4 * (i / 4) + i % 4 ≡ i = omega arith in
     let is : get_or (flat_map (little_bytes 4) ws) i 0 ≡ get_or (little_bytes 4 (get_or ws (i / 4) 0)) (i % 4) 0 = ap (λ k. get_or (flat_map (little_bytes 4) ws) k 0) (sym e) ∙ get_or-bytes ws (i / 4) (i % 4) (omega arith) (omega arith) in
     let small = byte_small (get_or ws (i / 4) 0) (i % 4) in
     omega (arith, is, small)
+
+-- the bytes are bytes
+pub bytes_small : (ws : List ℕ) (i : ℕ) → get_or (flat_map (little_bytes 4) ws) i 0 < 2 ^ 8
+bytes_small ws i = ⊎_elim (λ low. some ws i low) (λ high. rw (get_or_past (flat_map (little_bytes 4) ws) i 0 (omega (arith, length-bytes ws, high))) (omega arith)) (cases_lt i (4 * length ws))
