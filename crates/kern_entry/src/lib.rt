@@ -5,12 +5,11 @@
 pub mod area;
 pub mod calls;
 pub mod leave;
-mod placing;
 pub mod places;
+mod placing;
 pub mod save;
 pub mod stops;
 pub mod sys;
-
 #[cfg(test)]
 mod tests;
 
