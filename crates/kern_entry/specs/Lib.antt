@@ -1,2 +1,4 @@
 pub mod Words
 pub mod EntryWords
+pub mod Within
+pub mod WalkLaws

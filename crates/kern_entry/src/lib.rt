@@ -9,4 +9,6 @@ mod place;
 pub mod places;
 pub mod save;
 pub mod stops;
+pub mod stepwise;
 pub mod sys;
+

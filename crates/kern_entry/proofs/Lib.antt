@@ -1,0 +1,3 @@
+pub mod WalkLow
+pub mod WalkSteps
+pub mod Walk
