@@ -1,5 +1,5 @@
 -- The words of a listing come to its goals step by step, whatever the bus brings at each step.
-use Rattle.std.proofs.Common.{◌≡◌, ℕ, zero, suc, ◌+◌, ◌-◌, ◌*◌, ◌/◌, ◌%◌, ◌^◌, ◌<◌, ◌≤◌, List, [], ◌∷◌, ◌++◌, Bool, true, false, cond, Option, Some, None, refl, sym, ap, ◌∙◌, subst, arith, ⊎_elim}
+use Rattle.std.proofs.Common.{◌≡◌, ℕ, zero, suc, ◌+◌, ◌-◌, ◌*◌, ◌/◌, ◌%◌, ◌^◌, ◌≤◌, List, [], ◌∷◌, ◌++◌, Bool, true, false, cond, Option, None, refl, sym, ap, ◌∙◌, subst, arith, inl, inr, ⊎_elim}
 use Rattle.std.specs.Prelude.{nat_eq, ◌&&◌}
 use Rattle.std.proofs.lemmas.Bool.{eqb-true}
 use Rattle.psx_ins.specs.declared.ins.Ins.{Ins}
@@ -7,14 +7,14 @@ use Rattle.psx_ins.specs.declared.ins.Ins.TheVariants.{J, JAL, JR}
 use Rattle.psx_base.specs.Memory.{Memory}
 use Rattle.psx_base.specs.Registers.{Registers, register}
 use Rattle.psx_base.specs.Context.{settled}
-use Rattle.psx_cpu.specs.Processor.{idle}
+use Rattle.psx_cpu.specs.Processor.{Core, idle}
 use Rattle.psx_cpu.specs.Effect.{effect}
 use Rattle.psx_flow.specs.declared.node.Test.{Test}
 use Rattle.psx_flow.specs.Tree.{Tree, Stop, Do, When, Choose, Loop, Visit, Go, GoTo, size}
 use Rattle.psx_flow.specs.Well.{is_op, is_register, test_fits, fits}
 use Rattle.psx_flow.specs.Spaced.{load_of}
 use Rattle.psx_flow.specs.Lowered.{opposite, always, nop, branch, target_of, code, in_reach, in_region, reaches}
-use Rattle.psx_flow.specs.Run.{Run, state_at, done}
+use Rattle.psx_flow.specs.Run.{Run, Access, state_at, done}
 use Rattle.psx_flow.specs.Meets.{Holds, passing, linking, Goal, Calls, Turns, Meets, calls}
 use Rattle.psx_flow.specs.Plain.{kernel_core}
 use Rattle.psx_flow.specs.Reaches.{Keeps, IsPlaced, ArePlaced}
@@ -25,7 +25,7 @@ use Rattle.psx_flow.proofs.Room.{room, spaced, clear, none_pending, clear_after,
 use Rattle.psx_flow.proofs.Branches.{no_wrap, jumps_to, in_slot, opposite_fits}
 use Rattle.psx_flow.proofs.Moves.{stands_front, stands_at, pending_at}
 use Rattle.psx_flow.proofs.Compiled.{target_fits, register_fits, even_8, even_16, even_two}
-use Rattle.kern_entry.specs.Within.{Aim}
+use Rattle.kern_entry.specs.Within.{Aim, Within}
 use Rattle.kern_entry.proofs.WalkLow.{Low, LowCalls, low_turns, low, low_calls}
 use Rattle.kern_entry.proofs.WalkSteps.{Backs, op, two, taken, passed_by}
 
@@ -241,3 +241,35 @@ module _ (kept : ℕ → Bool) (first : Memory) (P : ℕ → Aim) (backs : Backs
         at_rest s raw p at n e (none_pending p (GoTo g r) clr refl)
         (by_two b s at least (o.low_jump (register s.regs g.0) (passing s) h) (λ j fw. two kept first P backs j (JR g) s (passing s) at (register s.regs g.0) ks (passing_keeps s ks) st.0 st.1.0 (register_fits g f0.0) refl refl
         (λ bus. refl) (λ bus. refl) (o.jump (register s.regs g.0) (passing s) (passing_keeps s ks) h j (omega (arith, fw)))) n few)
+
+  -- a listing that is placed
+  ready : (T : Tree) (at : ℕ) → IsPlaced kept first at T → Ready T at
+  ready T at p = record { fitting = p.fitting; reaching = p.reaching; roomy = tree_spaced T [] refl p.roomy; words = as_code kept first at (code T at) p.words }
+
+  walk_calls : (ls : List (ℕ × Tree)) → ArePlaced kept first ls → (a ret : ℕ) (K : Goal) (b : ℕ) (s : Run) → 4 * most ≤ b → Keeps kept first s → Low most K → ((e : Run) → Keeps kept first e → K e → At b e ret) → calls kept ls a ret K s → At b s a
+  walk_calls [] pl a ret K b s least ks lw o h = absurd h
+  walk_calls (l ∷ ls) pl a ret K b s least ks lw o h =
+      let w = walk (calls kept ls) (walk_calls ls pl.1) (low_calls kept most ls) l.1 l.0 (λ _. ⊥) (λ b m. (b ≡ ret) × K m) b s s.regs None least refl refl (ready l.1 l.0 pl.0) ks (record {
+        low = λ e z. absurd z;
+        low_jump = λ a e z. lw e z.1;
+        here = λ e ke z. absurd z;
+        jump = λ a e ke z. subst (λ n. At b e n) (sym z.0) (o e ke z.1);
+      }) in
+      split (nat_eq a l.0) refl (λ e k. subst (λ n. At b s n) (sym (eqb-true a l.0 e)) (w k)) (λ k. walk_calls ls pl.1 a ret K b s least ks lw o k) h
+    where
+      split : {X Y Z : Type 0} (v : Bool) → nat_eq a l.0 ≡ v → (nat_eq a l.0 ≡ true → X → Z) → (Y → Z) → cond v X Y → Z
+      split true e f g h = f e h
+      split false e f g h = g h
+
+  -- It is shown from a state at a listing, where it is from the states of the listing's goals.
+  pub walk_placed : (ls : List (ℕ × Tree)) → ArePlaced kept first ls → (T : Tree) (at : ℕ) (K : Goal) (G : ℕ → Goal) (b : ℕ) (s : Run) → 4 * most ≤ b → IsPlaced kept first at T → Keeps kept first s → Open b (at + 4 * size T) K G
+      → Meets kept (calls kept ls) T at K G s → At b s at
+  walk_placed ls pl T at K G b s least p ks o h = walk (calls kept ls) (walk_calls ls pl) (low_calls kept most ls) T at K G b s s.regs None least refl refl (ready T at p) ks o h
+
+-- for the goal within so many steps
+pub within_backs : (Z : Aim) → Backs (Within Z)
+within_backs Z = record { back = λ n k q h. inr h }
+
+pub within_here : (Z : Aim) (n : ℕ) (k : Core) (q : List Access) → Z k q → Within Z n k q
+within_here Z zero k q z = z
+within_here Z (suc n) k q z = inl z

@@ -8,7 +8,6 @@ pub mod leave;
 mod place;
 pub mod places;
 pub mod save;
-pub mod stops;
 pub mod stepwise;
+pub mod stops;
 pub mod sys;
-
