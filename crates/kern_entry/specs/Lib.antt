@@ -2,3 +2,4 @@ pub mod Words
 pub mod EntryWords
 pub mod Within
 pub mod WalkLaws
+pub mod Made
