@@ -1,2 +1,5 @@
-mod Over
-mod Trees
+pub mod Over
+pub mod Trees
+pub mod WalkLow
+pub mod WalkSteps
+pub mod Walk

@@ -8,6 +8,7 @@ pub mod leave;
 pub mod places;
 mod placing;
 pub mod save;
+pub mod stepwise;
 pub mod stops;
 pub mod sys;
 #[cfg(test)]
