@@ -9,3 +9,4 @@ pub mod Choosing
 pub mod Lookup
 pub mod Routines
 pub mod Leaving
+pub mod Pieces
