@@ -10,3 +10,4 @@ pub mod Lookup
 pub mod Routines
 pub mod Leaving
 pub mod Pieces
+pub mod Placed

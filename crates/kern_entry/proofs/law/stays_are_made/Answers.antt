@@ -4,6 +4,7 @@ use Rattle.kern_entry.proofs.Lookup.{call_a_meets, call_b_meets, call_c_meets}
 use Rattle.kern_entry.proofs.Routines.{exit_meets, done_meets, back_meets, unserved_meets, exception_meets, putchar_meets, sys_meets}
 use Rattle.kern_entry.proofs.Leaving.{leave_meets, behind_meets, resume_meets}
 use Rattle.kern_entry.proofs.Pieces.{pieces_held, read_past, read_under, entry_read}
+use Rattle.kern_entry.proofs.Placed.{all_placed}
 use Rattle.kern_entry.proofs.law.stays_are_made.Goals as goal
 
 pub returns : goal.returns
@@ -15,3 +16,6 @@ a2 = let a = sys_meets in let b = leave_meets in let d = behind_meets in let e =
 
 a3 : Unit {0}
 a3 = let a = pieces_held in let b = read_past in let d = read_under in let e = entry_read in tt
+
+a4 : Unit {0}
+a4 = let a = all_placed in tt
