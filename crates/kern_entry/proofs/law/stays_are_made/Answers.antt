@@ -5,6 +5,8 @@ use Rattle.kern_entry.proofs.Routines.{exit_meets, done_meets, back_meets, unser
 use Rattle.kern_entry.proofs.Leaving.{leave_meets, behind_meets, resume_meets}
 use Rattle.kern_entry.proofs.Pieces.{pieces_held, read_past, read_under, entry_read}
 use Rattle.kern_entry.proofs.Placed.{all_placed}
+use Rattle.kern_entry.proofs.Returning.{return_from}
+use Rattle.kern_entry.proofs.Telling.{after_ports, follows_ports, given_ports}
 use Rattle.kern_entry.proofs.law.stays_are_made.Goals as goal
 
 pub returns : goal.returns
@@ -19,3 +21,6 @@ a3 = let a = pieces_held in let b = read_past in let d = read_under in let e = e
 
 a4 : Unit {0}
 a4 = let a = all_placed in tt
+
+a5 : Unit {0}
+a5 = let a = return_from in let b = after_ports in let d = follows_ports in let e = given_ports in tt
