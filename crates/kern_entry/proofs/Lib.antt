@@ -13,3 +13,4 @@ pub mod Pieces
 pub mod Placed
 pub mod Returning
 pub mod Telling
+pub mod Stages
