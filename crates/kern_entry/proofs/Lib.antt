@@ -1,0 +1,17 @@
+pub mod Over
+pub mod Trees
+pub mod WalkLow
+pub mod WalkSteps
+pub mod Walk
+pub mod WorkArea
+pub mod Saving
+pub mod Choosing
+pub mod Lookup
+pub mod Routines
+pub mod Leaving
+pub mod Pieces
+pub mod Placed
+pub mod Returning
+pub mod Telling
+pub mod Stages
+pub mod Whole
