@@ -1,2 +1,11 @@
 pub mod Over
 pub mod RomLemmas
+pub mod BootWalk
+pub mod BootStep
+pub mod BootSound
+pub mod BootCopy
+pub mod BootLoop
+pub mod BootWords
+pub mod BootEnd
+pub mod BootStart
+pub mod Booted
