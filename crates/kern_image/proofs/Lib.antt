@@ -1,5 +1,7 @@
-pub mod Over
+pub mod Bytes
+pub mod Pieces
 pub mod RomLemmas
+pub mod Fixed
 pub mod BootWalk
 pub mod BootStep
 pub mod BootSound
