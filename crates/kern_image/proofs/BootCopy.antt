@@ -66,7 +66,7 @@ module _ (g : Setting) (boot : IsBoot g) (m : Memory) (p : ℕ) where
   copied-put : IsCopied g p m → (q : ℕ) → q ≡ p + 4 → IsCopied g q (put_word m p v)
   copied-put c q is = record {
     bytes = λ a lt. ⊎_elim (λ (h : a < p). byte-put_word_apart m p v a (apart_below p a h) ∙ c.bytes a h)
-    (λ (h : p ≤ a). ap (byte (put_word m p v)) {x = a} {y = p + (a - p)} (omega arith) ∙ new (a - p) (omega arith) ∙ ap (slice_index g.rom) {x = 0x10000 + p + (a - p)} {y = 0x10000 + a} (omega arith)) (cases_lt a p);
+        (λ (h : p ≤ a). ap (byte (put_word m p v)) {x = a} {y = p + (a - p)} (omega arith) ∙ new (a - p) (omega arith) ∙ ap (slice_index g.rom) {x = 0x10000 + p + (a - p)} {y = 0x10000 + a} (omega arith)) (cases_lt a p);
   }
 
 -- ---- the loop's body

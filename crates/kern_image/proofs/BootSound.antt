@@ -155,7 +155,6 @@ module _ (g : Setting) where
   none_used (Ask s t imm) c z m on h = aligned_none _ false h.0.aligned
   none_used (Store s t imm) c z m on h = aligned_none _ true (kernel_aligned _ h.0 h.1)
 
-
   -- the instruction at pc is the boot code's
   fetched : (k : ℕ) (i : Ins) (c : Context) (m : Memory) → IsBoot g → Base g m → k < 48 → instruction_of (slice_index BOOT k) ≡ Some i → c.pc ≡ 0xBFC00000 + 4 * k → instruction_of (read_word m c.pc) ≡ Some i
   fetched k i c m w b few is at =
@@ -178,11 +177,10 @@ module _ (g : Setting) where
   walks k [] c z m n on w is b h f = f c z m b h
   walks k (a ∷ rest) c z m n on w is b h f =
       let next : Next = λ c' z' m'. Walk g (suc k) rest c' z' m' on in
-      let o = only (is_there k c z) (Does g a c z m next) h in
-      (
+      let o = only (is_there k c z) (Does g a c z m next) h in (
         b.user,
         λ bus small. subst (Made (more rest n)) (sym (stepped k a c z m bus next w b (ltb-true k 48 is.0) is.1 o.0 o.1))
-        (made a c z m bus (more rest n) next b o.1 (λ c' z' m' b' r. walks (suc k) rest c' z' m' n on w is.2 b' r f)),
+            (made a c z m bus (more rest n) next b o.1 (λ c' z' m' b' r. walks (suc k) rest c' z' m' n on w is.2 b' r f)),
       )
 
   -- RFE ends it
