@@ -1,5 +1,5 @@
 -- The words of the entry: its listings, lowered, the vector, the gates, its table entries, and the two words that leave the kernel.
-use Rattle.std.specs.Prelude.{ℕ, ◌+◌, ◌*◌, ◌%◌, ◌^◌, List, [], ◌∷◌, ◌++◌, map, unwrap_or}
+use Rattle.std.specs.Prelude.{ℕ, ◌+◌, ◌*◌, ◌%◌, ◌^◌, List, [], ◌∷◌, ◌++◌, unwrap_or}
 use Rattle.psx_ins.specs.declared.reg.Reg.{Reg}
 use Rattle.psx_ins.specs.declared.ins.Ins.TheVariants.{SYSCALL, JR, RFE}
 use Rattle.psx_ins.specs.Words.{word}

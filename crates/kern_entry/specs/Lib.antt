@@ -1,2 +1,6 @@
 pub mod Words
 pub mod EntryWords
+pub mod Within
+pub mod WalkLaws
+pub mod Made
+pub mod EntryLaws

@@ -4,13 +4,14 @@
 
 pub mod area;
 pub mod calls;
+pub mod law;
 pub mod leave;
-mod placing;
 pub mod places;
+mod placing;
 pub mod save;
+pub mod stepwise;
 pub mod stops;
 pub mod sys;
-
 #[cfg(test)]
 mod tests;
 

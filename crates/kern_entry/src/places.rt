@@ -1,5 +1,8 @@
 //! Where the listings of the entry stand, in the cached segment, in which the kernel runs.
-use kern_layout::places::{LEAVE as LEAVE_PLACE, TESTED_READ_BYTE, TESTED_READ_WORD, TESTED_WRITE_BYTE, TESTED_WRITE_WORD, WORK as WORK_PLACE};
+use kern_layout::places::{
+    LEAVE as LEAVE_PLACE, TESTED_READ_BYTE, TESTED_READ_WORD, TESTED_WRITE_BYTE, TESTED_WRITE_WORD,
+    WORK as WORK_PLACE,
+};
 use kern_layout::ranges::{ENTRY_CODE, VECTOR as VECTOR_RANGE};
 
 /// The first address of the cached segment.

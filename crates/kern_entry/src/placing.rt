@@ -6,12 +6,13 @@ ghost use Rattle.psx_flow.specs.Spaced.{is_spaced};
 ghost use Rattle.psx_flow.specs.Lowered.{reaches};
 ghost use Rattle.kern_layout.specs.BlockWords.{IsBlock};
 ghost use Rattle.kern_entry.specs.Words.{over, overlaid};
-ghost use Rattle.kern_entry.specs.EntryWords.{tree, listing, vector_pieces, table_pieces, entry_pieces, leave_pieces, routine_pieces, tested_pieces, entry_word};
+ghost use Rattle.kern_entry.specs.EntryWords.{tree, listing, gate, return_words, vector_pieces, table_pieces, entry_pieces, leave_pieces, routine_pieces, tested_pieces, entry_word};
 
 use crate::calls::{CALL_A_NODES, CALL_B_NODES, CALL_C_NODES, EXIT_NODES, PUTCHAR_NODES};
 use crate::leave::{BEHIND_NODES, LEAVE_NODES, RESUME_NODES, RETURN, WORK_NODES};
 use crate::places::{
-    BACK, BEHIND, CACHED, CALL_A, CALL_B, CALL_C, CAUSES, DONE, EXCEPTION, EXIT, LEAVE, PUTCHAR, READ_BYTE, READ_WORD, RESUME, SAVE, SYSCALLS, UNSERVED, VECTOR, WORK, WRITE_BYTE, WRITE_WORD,
+    BACK, BEHIND, CACHED, CALL_A, CALL_B, CALL_C, CAUSES, DONE, EXCEPTION, EXIT, LEAVE, PUTCHAR,
+    READ_BYTE, READ_WORD, RESUME, SAVE, SYSCALLS, UNSERVED, VECTOR, WORK, WRITE_BYTE, WRITE_WORD,
 };
 use crate::save::{CAUSES_NODES, SAVE_NODES, VECTOR_NODES};
 use crate::stops::{BACK_NODES, DONE_NODES, EXCEPTION_NODES, UNSERVED_NODES};
@@ -66,15 +67,31 @@ fn put_listing(block: &mut KernelBlock, at: u32, nodes: &[Node])
     put_lowered(block, at, nodes, &mut words[..size]);
 }
 
+fn put_gate(block: &mut KernelBlock, at: u32)
+    requires aligned { at % 4 ≡ 0 }
+    requires within { at < 0x10000 }
+    ensures { (f : ℕ → ℕ) → IsBlock block.old f → IsBlock block.new (over at gate f) }
+{
+    put_words(block, at, &[encode(Ins::SYSCALL { code: 0 })]);
+}
+
+fn put_return(block: &mut KernelBlock, at: u32)
+    requires aligned { at % 4 ≡ 0 }
+    requires within { at + 8 ≤ 0x10000 }
+    ensures { (f : ℕ → ℕ) → IsBlock block.old f → IsBlock block.new (over at return_words f) }
+{
+    let jump = encode(Ins::JR { s: register!(r26) });
+    put_words(block, at, &[jump, encode(Ins::RFE)]);
+}
+
 fn place_vector(block: &mut KernelBlock)
     ensures { (f : ℕ → ℕ) → IsBlock block.old f → IsBlock block.new (overlaid vector_pieces f) }
 {
-    let gate = [encode(Ins::SYSCALL { code: 0 })];
-    put_words(block, GATE_BACK.from, &gate);
-    put_words(block, GATE_DONE.from, &gate);
-    put_words(block, GATE_C.from, &gate);
-    put_words(block, GATE_B.from, &gate);
-    put_words(block, GATE_A.from, &gate);
+    put_gate(block, GATE_BACK.from);
+    put_gate(block, GATE_DONE.from);
+    put_gate(block, GATE_C.from);
+    put_gate(block, GATE_B.from);
+    put_gate(block, GATE_A.from);
     put_listing(block, VECTOR, &VECTOR_NODES);
 }
 
@@ -104,8 +121,7 @@ fn place_leave(block: &mut KernelBlock)
     ensures { (f : ℕ → ℕ) → IsBlock block.old f → IsBlock block.new (overlaid leave_pieces f) }
 {
     put_listing(block, WORK, &WORK_NODES);
-    let words = [encode(Ins::JR { s: register!(r26) }), encode(Ins::RFE)];
-    put_words(block, RETURN - CACHED, &words);
+    put_return(block, RETURN - CACHED);
     put_listing(block, RESUME, &RESUME_NODES);
     put_listing(block, BEHIND, &BEHIND_NODES);
     put_listing(block, LEAVE, &LEAVE_NODES);

@@ -1,5 +1,5 @@
 -- Pieces of words over other words, one behind the other.
-use Rattle.std.proofs.Common.{◌≡◌, ℕ, ◌+◌, ◌-◌, ◌*◌, ◌/◌, ◌%◌, ◌^◌, ◌<◌, ◌≤◌, Bool, true, List, [], ◌∷◌, length, get_or, refl, sym, ap, ◌∙◌, subst, arith, rules, tests, ⊎_elim}
+use Rattle.std.proofs.Common.{◌≡◌, ℕ, ◌+◌, ◌-◌, ◌*◌, ◌/◌, ◌%◌, ◌^◌, ◌<◌, ◌≤◌, Bool, true, cond, List, [], ◌∷◌, length, get_or, refl, sym, ap, ◌∙◌, subst, arith, rules, tests, ⊎_elim}
 use Rattle.std.specs.Prelude.{nat_le, nat_lt, nat_eq, ◌&&◌, ◌||◌}
 use Rattle.std.specs.List.{list_all, list_any}
 use Rattle.std.proofs.lemmas.Bool.{and_parts, leb-true, ltb-true, eqb-true, cases_lt}
@@ -46,11 +46,21 @@ pub overlaid_stand : (from to : ℕ) (ps : List (ℕ × List ℕ)) (f w : ℕ �
 overlaid_stand from to [] f w h same = tt
 overlaid_stand from to (p ∷ ps) f w h same =
     let parts = and_parts (nat_le from p.0) (in_order (p.0 + 4 * length p.1) to ps) h in
-    let here = leb-true _ _ parts.0 in
-    (λ k low.
-    let at : (p.0 + 4 * k - p.0) / 4 ≡ k = omega arith in
-    same (p.0 + 4 * k) (omega (arith, here)) ∙ over-within p.0 p.1 (overlaid ps f) (p.0 + 4 * k) (omega arith) (omega (arith, low)) ∙ ap (λ i. get_or p.1 i 0) at,
-    overlaid_stand (p.0 + 4 * length p.1) to ps f w parts.1 (λ a le. same a (omega (arith, here, le)) ∙ over-behind p.0 p.1 (overlaid ps f) a le))
+    let here = leb-true _ _ parts.0 in (
+      λ k low.
+          let at : (p.0 + 4 * k - p.0) / 4 ≡ k = omega arith in
+          same (p.0 + 4 * k) (omega (arith, here)) ∙ over-within p.0 p.1 (overlaid ps f) (p.0 + 4 * k) (omega arith) (omega (arith, low)) ∙ ap (λ i. get_or p.1 i 0) at,
+      overlaid_stand (p.0 + 4 * length p.1) to ps f w parts.1 (λ a le. same a (omega (arith, here, le)) ∙ over-behind p.0 p.1 (overlaid ps f) a le),
+    )
+
+-- where two functions are equal
+over_same : (at : ℕ) (ws : List ℕ) (f g : ℕ → ℕ) (a : ℕ) → f a ≡ g a → over at ws f a ≡ over at ws g a
+unfolding over
+over_same at ws f g a e = ap (cond (nat_le at a && nat_lt a (at + 4 * length ws)) (get_or ws ((a - at) / 4) 0)) e
+
+pub overlaid_same : (ps : List (ℕ × List ℕ)) (f g : ℕ → ℕ) (a : ℕ) → f a ≡ g a → overlaid ps f a ≡ overlaid ps g a
+overlaid_same [] f g a e = e
+overlaid_same (p ∷ ps) f g a e = over_same p.0 p.1 (overlaid ps f) (overlaid ps g) a (overlaid_same ps f g a e)
 
 -- words that fit
 pub list_fits : (ws : List ℕ) (k : ℕ) → list_all (λ (w : ℕ). nat_lt w (2 ^ 32)) ws ≡ true → get_or ws k 0 < 2 ^ 32

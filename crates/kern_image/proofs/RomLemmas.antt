@@ -1,12 +1,14 @@
 -- The ROM's words and bytes.
-use Rattle.std.proofs.Common.{◌≡◌, ℕ, ◌+◌, ◌-◌, ◌*◌, ◌/◌, ◌%◌, ◌^◌, ◌<◌, true, cond, List, length, refl, sym, ap, subst, ⊎_elim, ◌∙◌, arith, rules, tests, get_or}
+use Rattle.std.proofs.Common.{◌≡◌, ℕ, ◌+◌, ◌-◌, ◌*◌, ◌/◌, ◌%◌, ◌^◌, ◌<◌, ◌≤◌, true, cond, List, length, refl, sym, ap, subst, ⊎_elim, ◌∙◌, arith, rules, tests, get_or}
 use Rattle.std.specs.Prelude.{flat_map, is_some, nat_lt}
-use Rattle.std.proofs.lemmas.Bool.{cases_eq, lt-ltb}
+use Rattle.std.proofs.lemmas.Bool.{cases_eq, cases_lt, lt-ltb}
 use Rattle.byteorder.specs.Endian.{little_bytes}
-use Rattle.kern_image.specs.Words.{word_of}
+use Rattle.kern_image.specs.Words.{HasWords, word_of}
 use Rattle.psx_base.specs.Addresses.{gate_at, place}
 use Rattle.psx_base.specs.Memory.{word, is_mapped}
 use Rattle.psx_cpu.specs.DataAccess.{read_word}
+use Rattle.kern_layout.specs.BlockWords.{block_word, IsBlock}
+use Rattle.kern_layout.specs.Opening.{Opens}
 use Rattle.kern_layout.specs.Stands.{is_fixed}
 use Rattle.abs_run.specs.Serves.{GatesRead}
 use Rattle.kern_entry.specs.Words.{over}
@@ -16,7 +18,7 @@ use Rattle.kern_image.specs.RomLaws.{BootReads, BlockReads, BlockOpens, FixedRea
 use Rattle.kern_image.specs.declared.boot.TheConstants.{BOOT}
 use Rattle.kern_image.proofs.Bytes.{length-listed, get_or-listed, listed-from_all, length-bytes, word_of-bytes, bytes_small}
 use Rattle.kern_image.proofs.Fixed.{word-held, byte-from_words, fixed_word, fixed_low}
-use Rattle.kern_image.proofs.Pieces.{list_fits, overlaid-behind, overlaid_fits, overlaid_stand, stand_there}
+use Rattle.kern_image.proofs.Pieces.{list_fits, overlaid-behind, overlaid_fits, overlaid_same, overlaid_stand, stand_there}
 
 pub rom_words-from_all : (xs : List ℕ) → length xs ≡ 0x20000 → ((k : ℕ) → k < 0x20000 → get_or xs k 0 ≡ rom_word (4 * k)) → xs ≡ rom_words
 unfolding rom_words
@@ -128,3 +130,21 @@ gates_read m at holds h =
     (fixed_reads m 0xD0 holds refl refl ∙ gate_words.1.1.1.0)
     (fixed_reads m 0xE0 holds refl refl ∙ gate_words.1.1.1.1)
     (place at) h
+
+-- the block as it is made: the words of the kernel's code, and then the opening values
+opened-below : (a : ℕ) → a < 0xB000 → opened_word a ≡ 0
+unfolding opened_word
+opened-below a low = search (tests, rules)
+
+kernel-below : (a : ℕ) → a < 0xB000 → entry_word (λ at. 0) a ≡ kernel_word a
+unfolding kernel_word entry_word
+kernel-below a low = overlaid_same pieces (λ at. 0) opened_word a (sym (opened-below a low))
+
+pub kernel_block : (placed last : List ℕ) → IsBlock placed (entry_word (λ at. 0)) → Opens (block_word last) → ((a : ℕ) → a < 0xB000 → block_word last a ≡ block_word placed a) → HasWords last kernel_word
+kernel_block placed last code opens below a al low =
+    ⊎_elim
+    (λ (h : a < 0xB000).
+    let at : 4 * (a / 4) ≡ a = omega (arith, al) in
+    below a h ∙ code.at (a / 4) (omega (arith, low)) ∙ ap (entry_word (λ at. 0)) at ∙ kernel-below a h)
+    (λ (h : 0xB000 ≤ a). opens a al h low ∙ sym (block_opens a al h low))
+    (cases_lt a 0xB000)

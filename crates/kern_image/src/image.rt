@@ -1,7 +1,7 @@
 //! The image: the kernel's words at their places, and the bytes of the ROM.
 ghost use Rattle.std.specs.Prelude.{◌≡◌, ℕ, ◌<◌, ◌*◌, ◌/◌, ◌%◌, ◌^◌, List, length, flat_map, slice_index, IfOk};
 ghost use Rattle.byteorder.specs.Endian.{little_bytes};
-ghost use Rattle.kern_layout.specs.BlockWords.{IsBlock};
+ghost use Rattle.kern_image.specs.Words.{HasWords};
 ghost use Rattle.kern_image.specs.Rom.{kernel_word, rom, rom_word, rom_words};
 
 use crate::boot::BOOT;
@@ -45,13 +45,13 @@ impl Image {
     }
 }
 
-// The kernel's block: the opening values, and over them the words of the kernel's code.
+// The kernel's block: the words of the kernel's code, and the opening values.
 fn kernel(alloc: Global) -> Result<KernelBlock, Memory>
-    ensures { IfOk result (λ b. IsBlock b kernel_word) }
+    ensures { IfOk result (λ b. HasWords b kernel_word) }
 {
     let mut block = KernelBlock::new(alloc)?;
-    put_opening(&mut block);
     place(&mut block);
+    put_opening(&mut block);
     Ok(block)
 }
 
@@ -67,7 +67,7 @@ fn word_in(words: &[u32], offset: u32) -> u32
 // The word of the ROM at an offset, a multiple of 4.
 #[tactic(auto, unfolding(crate::specs::Rom::rom_word, crate::specs::Rom::boot_word))]
 fn word_at(block: &KernelBlock, offset: u32) -> u32
-    requires block { IsBlock block.now kernel_word }
+    requires block { HasWords block.now kernel_word }
     requires aligned { offset % 4 ≡ 0 }
     ensures { result ≡ rom_word offset }
 {
@@ -82,7 +82,7 @@ fn word_at(block: &KernelBlock, offset: u32) -> u32
 
 // The words of the ROM, in their order.
 fn words_of(alloc: Global, block: &KernelBlock) -> Result<Vec<u32>, AllocError>
-    requires { IsBlock block.now kernel_word }
+    requires { HasWords block.now kernel_word }
     ensures { IfOk result (λ v. v.items ≡ rom_words) }
 {
     let mut words = Vec::with_capacity(alloc, ROM_WORDS as usize)?;
@@ -104,7 +104,7 @@ fn bytes_of(alloc: Global, words: &[u32]) -> Result<Vec<u8>, AllocError>
 
 // The bytes of the ROM.
 fn rom_bytes(alloc: Global, block: &KernelBlock) -> Result<Vec<u8>, AllocError>
-    requires { IsBlock block.now kernel_word }
+    requires { HasWords block.now kernel_word }
     ensures { IfOk result (λ v. v.items ≡ rom) }
 {
     let words = words_of(alloc, block)?;

@@ -1,5 +1,4 @@
-use Rattle.std.proofs.Common.{◌≡◌, ℕ, List, ◌+◌, ◌-◌, ◌*◌, ◌%◌, ◌^◌, length, sym, ap, ◌∙◌, subst, arith}
-use Rattle.psx_flow.specs.Tree.{size}
+use Rattle.std.proofs.Common.{◌≡◌, ℕ, List, ◌-◌, ◌%◌, ◌^◌, length, ap, subst, arith}
 use Rattle.psx_flow.specs.Reading.{tree_of}
 use Rattle.psx_flow.specs.Lowered.{lowered}
 use Rattle.psx_flow.proofs.Emits.{lowered_length}

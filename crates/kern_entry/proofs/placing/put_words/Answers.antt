@@ -1,4 +1,4 @@
-use Rattle.std.proofs.Common.{◌≡◌, ◌+◌, ◌*◌, ◌/◌, arith}
+use Rattle.std.proofs.Common.{◌/◌, arith}
 use Rattle.kern_entry.proofs.Over.{block_none, block_more, block_all}
 use Rattle.kern_entry.proofs.placing.put_words.Goals as goal
 
