@@ -1,4 +1,4 @@
-use Rattle.std.proofs.Common.{◌≡◌, arith, length}
+use Rattle.std.proofs.Common.{arith}
 use Rattle.kern_image.specs.Rom.{rom}
 use Rattle.kern_image.proofs.RomLemmas.{length-rom_words}
 use Rattle.kern_image.proofs.image.rom_bytes.Goals as goal

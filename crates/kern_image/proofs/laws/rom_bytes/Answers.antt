@@ -1,4 +1,3 @@
-use Rattle.std.proofs.Common.{◌∙◌}
 use Rattle.std.proofs.lemmas.List.{get_or_default}
 use Rattle.kern_image.specs.Rom.{rom}
 use Rattle.kern_image.proofs.RomLemmas.{length-rom, rom_small}
