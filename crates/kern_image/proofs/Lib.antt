@@ -2,3 +2,12 @@ pub mod Bytes
 pub mod Pieces
 pub mod RomLemmas
 pub mod Fixed
+pub mod BootWalk
+pub mod BootStep
+pub mod BootSound
+pub mod BootCopy
+pub mod BootLoop
+pub mod BootWords
+pub mod BootEnd
+pub mod BootStart
+pub mod Booted
