@@ -1,11 +1,11 @@
 -- The words of the entry: its listings, lowered, the vector, the gates, its table entries, and the two words that leave the kernel.
-use Rattle.std.specs.Prelude.{ℕ, ◌+◌, ◌*◌, ◌%◌, ◌^◌, List, [], ◌∷◌, ◌++◌, map, unwrap_or}
+use Rattle.std.specs.Prelude.{ℕ, ◌+◌, ◌*◌, ◌%◌, ◌^◌, List, [], ◌∷◌, ◌++◌, unwrap_or}
 use Rattle.psx_ins.specs.declared.reg.Reg.{Reg}
 use Rattle.psx_ins.specs.declared.ins.Ins.TheVariants.{SYSCALL, JR, RFE}
 use Rattle.psx_ins.specs.Words.{word}
 use Rattle.psx_flow.specs.declared.node.Node.{Node}
 use Rattle.psx_flow.specs.declared.listings.TheConstants.{READ_BYTE, WRITE_BYTE, READ_WORD, WRITE_WORD}
-use Rattle.psx_flow.specs.Tree.{Tree, Stop, size}
+use Rattle.psx_flow.specs.Tree.{Tree, Stop}
 use Rattle.psx_flow.specs.Reading.{tree_of}
 use Rattle.psx_flow.specs.Lowered.{lowered}
 use Rattle.kern_layout.specs.declared.ranges.TheConstants.{GATE_A, GATE_B, GATE_C, GATE_DONE, GATE_BACK, TABLE_A, TABLE_B}
@@ -14,7 +14,7 @@ use Rattle.kern_entry.specs.declared.save.TheConstants.{VECTOR_NODES, SAVE_NODES
 use Rattle.kern_entry.specs.declared.calls.TheConstants.{CALL_A_NODES, CALL_B_NODES, CALL_C_NODES, EXIT_NODES, PUTCHAR_NODES}
 use Rattle.kern_entry.specs.declared.stops.TheConstants.{UNSERVED_NODES, EXCEPTION_NODES, DONE_NODES, BACK_NODES}
 use Rattle.kern_entry.specs.declared.sys.TheConstants.{SYSCALLS_NODES}
-use Rattle.kern_entry.specs.declared.leave.TheConstants.{LEAVE_NODES, BEHIND_NODES, RESUME_NODES, WORK_NODES}
+use Rattle.kern_entry.specs.declared.leave.TheConstants.{LEAVE_NODES, BEHIND_NODES, RESUME_NODES, RETURN, WORK_NODES}
 use Rattle.kern_entry.specs.Words.{overlaid}
 
 -- the tree that nodes spell
@@ -41,7 +41,7 @@ return_words = word (JR k0) ∷ word RFE ∷ []
 -- back to the program
 abbrev pub leave_pieces : List (ℕ × List ℕ)
 leave_pieces =
-    listing place.LEAVE LEAVE_NODES ∷ listing place.BEHIND BEHIND_NODES ∷ listing place.RESUME RESUME_NODES ∷ (place.RESUME % 2 ^ 29 + 4 * size (tree RESUME_NODES), return_words)
+    listing place.LEAVE LEAVE_NODES ∷ listing place.BEHIND BEHIND_NODES ∷ listing place.RESUME RESUME_NODES ∷ (RETURN % 2 ^ 29, return_words)
     ∷ listing place.WORK WORK_NODES ∷ []
 
 -- the routines

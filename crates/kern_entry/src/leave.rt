@@ -73,3 +73,6 @@ pub const RESUME_NODES: [Node; 39] = [
     op!(LW r26, r26, SAVED_PC as u16),
     op!(OR r27, r0, r0),
 ];
+
+/// Where the jump to k0 stands, with RFE in its slot: right behind the listing of RESUME.
+pub const RETURN: u32 = RESUME + 4 * RESUME_NODES.len() as u32;

@@ -5,9 +5,13 @@
 pub mod area;
 pub mod calls;
 pub mod leave;
-mod place;
 pub mod places;
+mod placing;
 pub mod save;
 pub mod stepwise;
 pub mod stops;
 pub mod sys;
+#[cfg(test)]
+mod tests;
+
+pub use placing::place;
