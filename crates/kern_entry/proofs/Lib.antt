@@ -1,6 +1,10 @@
-mod Over
-mod Trees
+pub mod Over
+pub mod Trees
 pub mod WalkLow
 pub mod WalkSteps
 pub mod Walk
 pub mod WalkHome
+pub mod WalkMade
+pub mod WorkArea
+pub mod Saving
+pub mod Choosing

@@ -3,3 +3,4 @@ pub mod EntryWords
 pub mod Within
 pub mod WalkLaws
 pub mod Made
+pub mod EntryLaws

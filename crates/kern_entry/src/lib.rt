@@ -4,6 +4,7 @@
 
 pub mod area;
 pub mod calls;
+pub mod law;
 pub mod leave;
 pub mod places;
 mod placing;

@@ -8,7 +8,6 @@ use Rattle.psx_flow.proofs.Exact.{into, tells}
 use Rattle.kern_entry.specs.Within.{Within}
 use Rattle.kern_entry.specs.WalkLaws.{EndsRun}
 use Rattle.kern_entry.proofs.Walk.{walk_placed, within_backs, within_here}
-use Rattle.kern_entry.proofs.WalkHome.{walk_home}
 use Rattle.kern_entry.proofs.stepwise.words_walk.Goals as goal
 
 pub returns : goal.returns
