@@ -31,19 +31,13 @@ saves c z = with_field (saved (held c z.epc true)) 0x94 z.sr
 pub save_meets : (s : Run) (on : Bool) (most : ℕ) → s.cop0.sr ≡ saved_sr_of on → s.seen ≡ [] → s.passed + 39 ≤ most → Meets kernel_words (calls kernel_words []) (tree SAVE_NODES) SAVE (λ _. ⊥) (λ to e. (to ≡ CAUSES) × Entered s.regs s.cop0 on s.bytes [] most e) s
 save_meets s on most sr seen few =
     let log : List Entry = stored (saves s.regs s.cop0) [] in
-    start (calls kernel_words []) (fair kernel_words []) (tree SAVE_NODES) SAVE (λ _. ⊥) (λ to e. (to ≡ CAUSES) × Entered s.regs s.cop0 on s.bytes [] most e) s (
-      refl,
-      record {
-        holds = record {
-          area = area_after s.bytes log 0xEB00 (saved (held s.regs s.cop0.epc on)) refl refl (refl, (refl, (refl, (refl, (refl, (refl, (refl, (refl, (refl, (refl, (refl, (refl, (refl, (refl, (refl, (refl, (refl, (refl, (refl, (refl, (refl, (refl, (refl, (refl, (refl, (refl, (refl, (refl, (refl, (refl, (refl, (refl, (sr, tt)))))))))))))))))))))))))))))))));
-          spared = applied_spared s.bytes log refl;
-          ports = ap ports seen;
-          within = omega arith;
-        };
-        r2 = refl;
-        r4 = refl;
-        r9 = refl;
-        r31 = refl;
-        cop0 = refl;
-      },
-    )
+    start (calls kernel_words []) (fair kernel_words []) (tree SAVE_NODES) SAVE (λ _. ⊥) (λ to e. (to ≡ CAUSES) × Entered s.regs s.cop0 on s.bytes [] most e) s
+    (refl, record {
+      holds = record {
+        area = area_after s.bytes log 0xEB00 (saved (held s.regs s.cop0.epc on)) refl refl (refl, (refl, (refl, (refl, (refl, (refl, (refl, (refl, (refl, (refl, (refl, (refl, (refl, (refl, (refl, (refl, (refl, (refl, (refl, (refl, (refl, (refl, (refl, (refl, (refl, (refl, (refl, (refl, (refl, (refl, (refl, (refl, (sr, tt)))))))))))))))))))))))))))))))));
+        spared = applied_spared s.bytes log refl;
+        ports = ap ports seen;
+        within = omega arith;
+      };
+      r2 = refl; r4 = refl; r9 = refl; r31 = refl; cop0 = refl;
+    })
