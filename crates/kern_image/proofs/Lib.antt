@@ -1,2 +1,4 @@
-pub mod Over
+pub mod Bytes
+pub mod Pieces
 pub mod RomLemmas
+pub mod Fixed
