@@ -3,8 +3,6 @@ pub mod Trees
 pub mod WalkLow
 pub mod WalkSteps
 pub mod Walk
-pub mod WalkHome
-pub mod WalkMade
 pub mod WorkArea
 pub mod Saving
 pub mod Choosing
