@@ -6,3 +6,8 @@ pub mod Walk
 pub mod WorkArea
 pub mod Saving
 pub mod Choosing
+pub mod Lookup
+pub mod Routines
+pub mod Leaving
+pub mod Pieces
+pub mod Placed

@@ -12,7 +12,7 @@ use Rattle.psx_flow.specs.Run.{Run, Access}
 use Rattle.psx_flow.specs.Told.{ports}
 use Rattle.psx_flow.proofs.Log.{Entry, KernelWord, KernelByte, UserWord, UserByte, applied, Sorted, kernel_word_then, kernel_word_is}
 use Rattle.kern_layout.specs.Fields.{Fields, Block}
-use Rattle.kern_layout.specs.Contexts.{saved}
+use Rattle.kern_layout.specs.Contexts.{saved, saved_sr_of}
 use Rattle.kern_layout.specs.Stores.{put, with_field}
 use Rattle.kern_layout.proofs.Blocks.{inside, block_same, block_put}
 use Rattle.kern_layout.proofs.MemoryStored.{word_stored}
@@ -102,19 +102,37 @@ abbrev pub stored : Fields → List Entry → List Entry
 stored [] w = w
 stored (f ∷ fs) w = stored fs (KernelWord (0xEB00 + f.0) f.1 ∷ w)
 
--- ---- registers changed, and nothing else
+-- ---- registers changed, memory read, and nothing else
 
-pub holds_on : (c : Registers) (pc : ℕ) (on : Bool) (m : Memory) (p : List Access) (most more : ℕ) (s : Run) → Holds c pc on m p most s → (d : Registers) (z : Cop0) (n : ℕ) → n ≤ more
-    → Holds c pc on m p more (record { regs = d; cop0 = z; bytes = s.bytes; seen = s.seen; passed = n })
-holds_on c pc on m p most more s h d z n few = record { area = h.area; spared = h.spared; ports = h.ports; within = few }
+pub holds_on : (c : Registers) (pc : ℕ) (on : Bool) (m : Memory) (p : List Access) (most more : ℕ) (s : Run) → Holds c pc on m p most s → (d : Registers) (z : Cop0) (q : List Access) (n : ℕ) → ports q ≡ ports s.seen → n ≤ more
+    → Holds c pc on m p more (record { regs = d; cop0 = z; bytes = s.bytes; seen = q; passed = n })
+holds_on c pc on m p most more s h d z q n e few = record { area = h.area; spared = h.spared; ports = e ∙ h.ports; within = few }
 
-pub entered_on : (c : Registers) (z : Cop0) (on : Bool) (m : Memory) (p : List Access) (most more : ℕ) (s : Run) → Entered c z on m p most s → (d : Registers) (n : ℕ) → d.r2 ≡ s.regs.r2 → d.r4 ≡ s.regs.r4 → d.r9 ≡ s.regs.r9 → d.r31 ≡ s.regs.r31 → n ≤ more
-    → Entered c z on m p more (record { regs = d; cop0 = s.cop0; bytes = s.bytes; seen = s.seen; passed = n })
-entered_on c z on m p most more s h d n e2 e4 e9 e31 few = record {
-  holds = holds_on c z.epc on m p most more s h.holds d s.cop0 n few;
+pub entered_on : (c : Registers) (z : Cop0) (on : Bool) (m : Memory) (p : List Access) (most more : ℕ) (s : Run) → Entered c z on m p most s → (d : Registers) (q : List Access) (n : ℕ) → d.r2 ≡ s.regs.r2 → d.r4 ≡ s.regs.r4 → d.r9 ≡ s.regs.r9 → d.r31 ≡ s.regs.r31 → ports q ≡ ports s.seen → n ≤ more
+    → Entered c z on m p more (record { regs = d; cop0 = s.cop0; bytes = s.bytes; seen = q; passed = n })
+entered_on c z on m p most more s h d q n e2 e4 e9 e31 e few = record {
+  holds = holds_on c z.epc on m p most more s h.holds d s.cop0 q n e few;
   r2 = e2 ∙ h.r2;
   r4 = e4 ∙ h.r4;
   r9 = e9 ∙ h.r9;
   r31 = e31 ∙ h.r31;
   cop0 = h.cop0;
 }
+
+-- ---- what the area holds
+
+pub area_r31 : (m : Memory) (c : Registers) (pc : ℕ) (on : Bool) → Block (word m) 0xEB00 (saved (held c pc on)) → word m 0xEB84 ≡ c.r31
+area_r31 m c pc on h = h.1.1.1.1.1.1.1.1.1.1.1.1.1.1.1.1.1.1.1.1.1.1.1.1.1.1.1.1.0
+
+pub area_pc : (m : Memory) (c : Registers) (pc : ℕ) (on : Bool) → Block (word m) 0xEB00 (saved (held c pc on)) → word m 0xEB88 ≡ pc
+area_pc m c pc on h = h.1.1.1.1.1.1.1.1.1.1.1.1.1.1.1.1.1.1.1.1.1.1.1.1.1.1.1.1.1.0
+
+pub area_sr : (m : Memory) (c : Registers) (pc : ℕ) (on : Bool) → Block (word m) 0xEB00 (saved (held c pc on)) → word m 0xEB94 ≡ saved_sr_of on
+area_sr m c pc on h = h.1.1.1.1.1.1.1.1.1.1.1.1.1.1.1.1.1.1.1.1.1.1.1.1.1.1.1.1.1.1.1.1.0
+
+-- all registers from their places, k0 with the address and k1 with 0
+abbrev pub loaded : Memory → Registers
+loaded m = record { r1 = word m 0xeb0c; r2 = word m 0xeb10; r3 = word m 0xeb14; r4 = word m 0xeb18; r5 = word m 0xeb1c; r6 = word m 0xeb20; r7 = word m 0xeb24; r8 = word m 0xeb28; r9 = word m 0xeb2c; r10 = word m 0xeb30; r11 = word m 0xeb34; r12 = word m 0xeb38; r13 = word m 0xeb3c; r14 = word m 0xeb40; r15 = word m 0xeb44; r16 = word m 0xeb48; r17 = word m 0xeb4c; r18 = word m 0xeb50; r19 = word m 0xeb54; r20 = word m 0xeb58; r21 = word m 0xeb5c; r22 = word m 0xeb60; r23 = word m 0xeb64; r24 = word m 0xeb68; r25 = word m 0xeb6c; r26 = word m 0xeb88; r27 = 0; r28 = word m 0xeb78; r29 = word m 0xeb7c; r30 = word m 0xeb80; r31 = word m 0xeb84; hi = word m 0xeb8c; lo = word m 0xeb90 }
+
+pub area_loaded : (m : Memory) (c : Registers) (pc : ℕ) (on : Bool) → Block (word m) 0xEB00 (saved (held c pc on)) → loaded m ≡ record c { r26 = pc; r27 = 0 }
+area_loaded m c pc on h = λ i. record { r1 = (h.0) i; r2 = (h.1.0) i; r3 = (h.1.1.0) i; r4 = (h.1.1.1.0) i; r5 = (h.1.1.1.1.0) i; r6 = (h.1.1.1.1.1.0) i; r7 = (h.1.1.1.1.1.1.0) i; r8 = (h.1.1.1.1.1.1.1.0) i; r9 = (h.1.1.1.1.1.1.1.1.0) i; r10 = (h.1.1.1.1.1.1.1.1.1.0) i; r11 = (h.1.1.1.1.1.1.1.1.1.1.0) i; r12 = (h.1.1.1.1.1.1.1.1.1.1.1.0) i; r13 = (h.1.1.1.1.1.1.1.1.1.1.1.1.0) i; r14 = (h.1.1.1.1.1.1.1.1.1.1.1.1.1.0) i; r15 = (h.1.1.1.1.1.1.1.1.1.1.1.1.1.1.0) i; r16 = (h.1.1.1.1.1.1.1.1.1.1.1.1.1.1.1.0) i; r17 = (h.1.1.1.1.1.1.1.1.1.1.1.1.1.1.1.1.0) i; r18 = (h.1.1.1.1.1.1.1.1.1.1.1.1.1.1.1.1.1.0) i; r19 = (h.1.1.1.1.1.1.1.1.1.1.1.1.1.1.1.1.1.1.0) i; r20 = (h.1.1.1.1.1.1.1.1.1.1.1.1.1.1.1.1.1.1.1.0) i; r21 = (h.1.1.1.1.1.1.1.1.1.1.1.1.1.1.1.1.1.1.1.1.0) i; r22 = (h.1.1.1.1.1.1.1.1.1.1.1.1.1.1.1.1.1.1.1.1.1.0) i; r23 = (h.1.1.1.1.1.1.1.1.1.1.1.1.1.1.1.1.1.1.1.1.1.1.0) i; r24 = (h.1.1.1.1.1.1.1.1.1.1.1.1.1.1.1.1.1.1.1.1.1.1.1.0) i; r25 = (h.1.1.1.1.1.1.1.1.1.1.1.1.1.1.1.1.1.1.1.1.1.1.1.1.0) i; r26 = (h.1.1.1.1.1.1.1.1.1.1.1.1.1.1.1.1.1.1.1.1.1.1.1.1.1.1.1.1.1.0) i; r27 = 0; r28 = (h.1.1.1.1.1.1.1.1.1.1.1.1.1.1.1.1.1.1.1.1.1.1.1.1.1.0) i; r29 = (h.1.1.1.1.1.1.1.1.1.1.1.1.1.1.1.1.1.1.1.1.1.1.1.1.1.1.0) i; r30 = (h.1.1.1.1.1.1.1.1.1.1.1.1.1.1.1.1.1.1.1.1.1.1.1.1.1.1.1.0) i; r31 = (h.1.1.1.1.1.1.1.1.1.1.1.1.1.1.1.1.1.1.1.1.1.1.1.1.1.1.1.1.0) i; hi = (h.1.1.1.1.1.1.1.1.1.1.1.1.1.1.1.1.1.1.1.1.1.1.1.1.1.1.1.1.1.1.0) i; lo = (h.1.1.1.1.1.1.1.1.1.1.1.1.1.1.1.1.1.1.1.1.1.1.1.1.1.1.1.1.1.1.1.0) i }

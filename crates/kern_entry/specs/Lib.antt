@@ -4,3 +4,4 @@ pub mod Within
 pub mod WalkLaws
 pub mod Made
 pub mod EntryLaws
+pub mod Holding
