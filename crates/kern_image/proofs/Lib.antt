@@ -7,3 +7,4 @@ pub mod StaysRuns
 pub mod StaysMade
 pub mod StaysStand
 pub mod StaysEnter
+pub mod StaysHeld

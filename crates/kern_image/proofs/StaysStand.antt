@@ -11,6 +11,7 @@ use Rattle.psx_cpu.specs.Processor.{Core}
 use Rattle.kern_layout.specs.declared.ranges.Range.{Range}
 use Rattle.kern_layout.specs.Ranges.{stack_range}
 use Rattle.kern_layout.specs.Stands.{Side, SameUser, Stands, is_fixed, fixed_ranges}
+use Rattle.kern_layout.specs.Numbers.{threads_at}
 use Rattle.kern_layout.specs.Valid.{Valid}
 use Rattle.abs_run.specs.InKernel.{side_of}
 use Rattle.kern_layout.proofs.Written.{reads_free}
@@ -33,8 +34,8 @@ below_all (r ∷ rs) high a all h =
     (λ q. below_all rs high a p.1 q)
     (or_cases (nat_le r.from a && nat_lt a r.to) (list_any (λ (r : Range). nat_le r.from a && nat_lt a r.to) rs) h)
 
-fixed_below : (a : ℕ) → is_fixed a ≡ true → a < stack_range.from
-fixed_below a h = below_all fixed_ranges stack_range.from a refl h
+pub fixed_below : (a : ℕ) → is_fixed a ≡ true → a < threads_at
+fixed_below a h = below_all fixed_ranges threads_at a refl h
 
 user_above : (a : ℕ) → (user_main a || scratchpad a) ≡ true → stack_range.to ≤ a
 user_above a h = grind arith
@@ -65,7 +66,7 @@ module _ (first : Memory) (side : Side) (s : KernelState) (rom : List ℕ) (vali
         latch = h.latch;
         reads = record { threads = r.threads; events = r.events; frames = r.frames; chains = r.chains; heap = r.heap; files = r.files; line = r.line; variables = r.variables };
         user = spared_user first next.bytes s.memory stands.user h.spared;
-        code = λ a f. h.spared a (inl (fixed_below a f)) ∙ stands.code a f;
+        code = λ a f. (let low = fixed_below a f in h.spared a (inl (omega arith))) ∙ stands.code a f;
       }
 
   pub back : (state : KernelState) (next : Core) → state ≡ record s { running = state.running } → IsBack first state next → Stands (side_of next) next.bytes state rom
