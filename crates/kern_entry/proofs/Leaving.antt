@@ -32,7 +32,7 @@ sr_is_even : (on : Bool) → nat_eq (sr_kept (saved_sr_of on) % 2) 0 ≡ true
 sr_is_even true = refl
 sr_is_even false = refl
 
-module _ (c : Registers) (pc : ℕ) (on : Bool) (m : Memory) (p : List Access) (most more : ℕ) (s : Run) (h : Holds c pc on m p most s) (few : most + 50 ≤ more) where
+module _ (c : Registers) (pc : ℕ) (on : Bool) (m : Memory) (p : List Access) (most more : ℕ) (s : Run) (h : Holds c pc on m p most s) (few : most + 10 ≤ more) where
   pub leave_meets : Meets kernel_words (calls kernel_words []) (tree LEAVE_NODES) LEAVE (λ _. ⊥) (λ to e. (to ≡ RESUME) × Holds (record c { r2 = s.regs.r2 }) c.r31 on m p more e) s
   leave_meets =
       let within = h.within in
@@ -61,8 +61,8 @@ module _ (c : Registers) (pc : ℕ) (on : Bool) (m : Memory) (p : List Access) (
         within = omega arith;
       })
 
-  pub resume_meets : Meets kernel_words (calls kernel_words []) (tree RESUME_NODES) RESUME (λ e. Resumed c pc on m p more e) (λ _ _. ⊥) s
-  resume_meets =
+  pub resume_meets : most + 45 ≤ more → Meets kernel_words (calls kernel_words []) (tree RESUME_NODES) RESUME (λ e. Resumed c pc on m p more e) (λ _ _. ⊥) s
+  resume_meets many =
       let within = h.within in
       let sr : word s.bytes 0xEB94 ≡ saved_sr_of on = area_sr s.bytes c pc on h.area in
       start (calls kernel_words []) (fair kernel_words []) (tree RESUME_NODES) RESUME (λ e. Resumed c pc on m p more e) (λ _ _. ⊥) s

@@ -11,3 +11,6 @@ pub mod Routines
 pub mod Leaving
 pub mod Pieces
 pub mod Placed
+pub mod Returning
+pub mod Telling
+pub mod Stages

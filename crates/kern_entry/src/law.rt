@@ -1,7 +1,8 @@
-//! What is proved of the entry.
-ghost use Rattle.kern_entry.specs.EntryLaws.{Try};
+//! What is proved of the entry's words.
+ghost use Rattle.kern_entry.specs.EntryLaws.{StaysAreMade};
 
-/// The words of the entry make the stays.
+/// From the exception vector the entry's words, where they stand in memory, make the stay of each entry from the user side, step by step and whatever the bus brings, in at most 802 steps:
+/// they return with the registers, HI, LO and SR of the stay's state and have changed no memory but the kernel's stack, or they halt with the stay's stop. It does nothing.
 pub fn stays_are_made()
-    ensures { Try }
+    ensures { StaysAreMade }
 {}
