@@ -14,3 +14,4 @@ pub mod Placed
 pub mod Returning
 pub mod Telling
 pub mod Stages
+pub mod Whole

@@ -87,7 +87,7 @@ module _ (m : Memory) (all : AllPlaced m) (stay : Stay) where
       subst (λ x. Made m stay k x) (sym s.seen) (follows_at s.rest p s.told h.follows, subst P (sym (is_at s.rest p (Halt h.stop h.memory) s.told h.is)) (told, subst (Spared m) (sym same) s.spared))
 
   -- a listing that stops
-  stops_here : (T : Tree) (at code : ℕ) (p : List Access) (s : Run) → IsPlaced kernel_words m at T → Keeping s → HaltsBy code p → Meets kernel_words (calls kernel_words []) T at (λ e. Stops code p m 200 e) (λ _ _. ⊥) s → Shown s at
+  pub stops_here : (T : Tree) (at code : ℕ) (p : List Access) (s : Run) → IsPlaced kernel_words m at T → Keeping s → HaltsBy code p → Meets kernel_words (calls kernel_words []) T at (λ e. Stops code p m 200 e) (λ _ _. ⊥) s → Shown s at
   stops_here T at code p s pl ks h me =
       walks T at (λ e. Stops code p m 200 e) (λ _ _. ⊥) s pl ks (λ e k. k.within) (λ a e z. absurd z)
       (λ e ke k n few. within_here (Made m stay) n _ _ (made_halt (kernel_core (state_at e (at + 4 * size T))) e code 200 p refl k h)) (λ a e ke z. absurd z) me
