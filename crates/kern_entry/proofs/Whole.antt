@@ -1,6 +1,6 @@
 -- From the vector on each stay is made: by its entrance, and a call by its row.
-use Rattle.std.proofs.Common.{◌≡◌, ℕ, zero, suc, ◌+◌, ◌*◌, ◌%◌, ◌^◌, ◌<◌, ◌≤◌, List, [], ◌∷◌, Bool, true, false, Option, Some, None, refl, sym, ap, ◌∙◌, subst, arith}
-use Rattle.std.specs.Prelude.{if◌then◌else◌}
+use Rattle.std.proofs.Common.{◌≡◌, ℕ, zero, suc, ◌+◌, ◌-◌, ◌*◌, ◌%◌, ◌^◌, ◌<◌, ◌≤◌, List, [], ◌∷◌, Bool, true, false, Option, Some, None, refl, sym, ap, ◌∙◌, subst, arith}
+use Rattle.std.specs.Prelude.{if◌then◌else◌, unwrap_or}
 use Rattle.std.proofs.lemmas.Bool.{lt-ltb}
 use Rattle.psx_base.specs.declared.ports.TheConstants.{CONSOLE_DATA, HALT_A, HALT_B, HALT_C}
 use Rattle.psx_base.specs.declared.stop.Table.{Table}
@@ -8,7 +8,7 @@ use Rattle.psx_base.specs.declared.stop.Table.TheVariants.{A, B, C, Sys}
 use Rattle.psx_base.specs.declared.stop.Stop.TheVariants.{Exit, Exception, Unserved, BadReturn}
 use Rattle.psx_base.specs.Memory.{Memory, byte, word}
 use Rattle.psx_base.specs.Registers.{Registers}
-use Rattle.psx_base.specs.Context.{Context, settled, settle, epc_of, taken}
+use Rattle.psx_base.specs.Context.{Context, settled, settle, epc_of, placed, taken}
 use Rattle.psx_base.specs.Addresses.{is_mirrored}
 use Rattle.psx_base.specs.Items.{Entrance, ByA, ByB, ByC, BySyscall, ByInterrupt, ByDone, ByBack, ByTrap}
 use Rattle.psx_base.specs.KernelState.{KernelState}
@@ -167,7 +167,7 @@ module _ (m : Memory) (all : AllPlaced m) (s : KernelState) (code sr bad : ℕ) 
       }) (sys_meets c z on m [] 100 200 e h (omega arith) number q)
 
   -- an entry by its entrance
-  pub arrived : (by : Entrance) (e : Run) → Keeps kernel_words m e → Entered c z on m [] 80 e → Shown m all (by_entrance by code t) e (arrival by)
+  arrived : (by : Entrance) (e : Run) → Keeps kernel_words m e → Entered c z on m [] 80 e → Shown m all (by_entrance by code t) e (arrival by)
   arrived ByA e ke h = table_shown A (tree CALL_A_NODES) CALL_A e all.call_a ke (call_a_meets c z on m [] 80 100 e h (omega arith) (table_kept m e A 0x200 0xC0 ke (omega arith) all.table_a))
   arrived ByB e ke h = table_shown B (tree CALL_B_NODES) CALL_B e all.call_b ke (call_b_meets c z on m [] 80 100 e h (omega arith) (table_kept m e B 0x874 0x5F ke (omega arith) all.table_b))
   arrived ByC e ke h = table_shown C (tree CALL_C_NODES) CALL_C e all.call_c ke (call_c_meets c z on m [] 80 100 e h (omega arith) (table_kept m e C 0x674 0x20 ke (omega arith) all.table_c))
@@ -176,3 +176,80 @@ module _ (m : Memory) (all : AllPlaced m) (s : KernelState) (code sr bad : ℕ) 
   arrived ByTrap e ke h = trap_shown e ke (further_in c z on m [] 80 100 e (omega arith) h)
   arrived ByDone e ke h = done_shown m all (by_entrance ByDone code t) c z on [] e ke (further_in c z on m [] 80 100 e (omega arith) h) (record { stop = Exit c.r2; memory = s.memory; follows = (tt, refl); is = refl; stops = λ x y w. refl })
   arrived ByBack e ke h = back_shown m all (by_entrance ByBack code t) c z on [] e ke (further_in c z on m [] 80 100 e (omega arith) h) (record { stop = BadReturn c.r31; memory = s.memory; follows = (tt, refl); is = refl; stops = λ x y w. refl })
+
+  -- from the causes on, from the save and from the vector
+  abbrev own : Entrance
+  own = entrance code s.running.context.in_slot z.epc
+
+  abbrev whole : Stay
+  whole = by_entrance own code t
+
+  causes_shown : (code ≡ 8 → s.running.context.in_slot ≡ false → is_mirrored z.epc ≡ true) → (e : Run) → Keeps kernel_words m e → Entered c z on m [] 40 e → Shown m all whole e CAUSES
+  causes_shown mirror e ke h =
+      walks m all whole (tree CAUSES_NODES) CAUSES (λ _. ⊥) (λ to x. (to ≡ arrival own) × Entered c z on m [] 80 x) e all.causes ke (λ x b. absurd b) (λ a x g. low x g.1) (λ x kx b. absurd b)
+      (λ a x kx g. subst (λ n. Shown m all whole x n) (sym g.0) (arrived own x kx g.1)) (causes_meets c code s.running.context.in_slot z on m [] 40 80 e h refl small mirror (omega arith))
+    where
+      low : (x : Run) → Entered c z on m [] 80 x → x.passed ≤ 200
+      low x g = omega (arith, g.holds.within)
+
+  save_shown : z.sr ≡ saved_sr_of on → (code ≡ 8 → s.running.context.in_slot ≡ false → is_mirrored z.epc ≡ true) → (e : Run) → Keeps kernel_words m e → Arrived c z m 1 e → Shown m all whole e SAVE
+  save_shown as_saved mirror e ke h =
+      walks m all whole (tree SAVE_NODES) SAVE (λ _. ⊥) (λ to x. (to ≡ CAUSES) × Entered e.regs e.cop0 on e.bytes [] 40 x) e all.save ke (λ x b. absurd b) (λ a x g. low x g.1) (λ x kx b. absurd b)
+      (λ a x kx g. subst (λ n. Shown m all whole x n) (sym g.0) (causes_shown mirror x kx (same x g.1))) (save_meets e on 40 (ap (λ y. y.sr) h.cop0 ∙ as_saved) h.seen (omega (arith, h.within)))
+    where
+      low : (x : Run) → Entered e.regs e.cop0 on e.bytes [] 40 x → x.passed ≤ 200
+      low x g = omega (arith, g.holds.within)
+
+      same : (x : Run) → Entered e.regs e.cop0 on e.bytes [] 40 x → Entered c z on m [] 40 x
+      same x g =
+          let P : Registers → Type 0 = λ y. Entered y e.cop0 on e.bytes [] 40 x in
+          let Q : Cop0 → Type 0 = λ y. Entered c y on e.bytes [] 40 x in
+          let R : Memory → Type 0 = λ y. Entered c z on y [] 40 x in
+          subst R h.bytes (subst Q h.cop0 (subst P h.regs g))
+
+  -- at the vector
+  abbrev first : Run
+  first = record { regs = c; cop0 = z; bytes = m; seen = []; passed = 0 }
+
+  pub vector_shown : z.sr ≡ saved_sr_of on → z.sr % 2 ≡ 0 → (code ≡ 8 → s.running.context.in_slot ≡ false → is_mirrored z.epc ≡ true) → Shown m all whole first VECTOR
+  vector_shown as_saved off mirror =
+      walks m all whole (tree VECTOR_NODES) VECTOR (λ _. ⊥) (λ to x. (to ≡ SAVE) × Arrived c z m 1 x) first all.vector (record { bytes = λ x e. refl; masked = off }) (λ x b. absurd b) (λ a x g. low x g.1) (λ x kx b. absurd b)
+      (λ a x kx g. subst (λ n. Shown m all whole x n) (sym g.0) (save_shown as_saved mirror x kx g.1)) (vector_meets first 1 refl (omega arith))
+    where
+      low : (x : Run) → Arrived c z m 1 x → x.passed ≤ 200
+      low x g = omega (arith, g.within)
+
+-- ---- an entry
+
+-- SR and the vector at an entry from the user side
+sr_entered : (on : Bool) → entered_sr (user_sr on) ≡ saved_sr_of on
+sr_entered true = refl
+sr_entered false = refl
+
+sr_off : (on : Bool) → entered_sr (user_sr on) % 2 ≡ 0
+sr_off true = refl
+sr_off false = refl
+
+vector_is : (on : Bool) → vector (user_sr on) ≡ VECTOR
+vector_is true = refl
+vector_is false = refl
+
+-- the address of a SYSCALL that is in no slot
+mirror_of : (x : Context) → x.in_slot ≡ false → is_mirrored x.pc ≡ true → is_mirrored (epc_of x) ≡ true
+mirror_of x out h = ap (λ b. is_mirrored (if b then (x.pc + (2 ^ 32 - 4)) % 2 ^ 32 else x.pc)) out ∙ h
+
+pub stays_are_made : StaysAreMade
+unfolding stay_of
+stays_are_made k s trap h =
+    let on : Bool = s.running.interrupts in
+    let m : Memory = k.bytes in
+    let x : Context = s.running.context in
+    let bad : ℕ = unwrap_or trap.bad k.processor.cop0.bad_address in
+    let made : Core → Type 0 = λ y. Within (Made m (by_entrance (entrance_of x trap.code) trap.code (settled_state s))) 802 y [] in
+    let cop : ℕ → Cop0 = λ sr. record { sr = entered_sr sr; cause = cause_of trap.code x.in_slot; epc = epc_of x; bad_address = bad } in
+    let at : ℕ → ℕ → Core = λ sr pc. record { processor = record { context = placed (settle x) pc; cop0 = cop sr; latch = true }; bytes = m } in
+    let begun : made (at (user_sr on) VECTOR) =
+        vector_shown m (all_placed m h.words) s trap.code (entered_sr (user_sr on)) bad h.code (sr_entered on) (sr_off on) (λ e out. mirror_of x out (h.mirrored e out)) 802 (omega arith) in
+    let placed_there : made (at (user_sr on) (vector (user_sr on))) = subst (λ a. made (at (user_sr on) a)) (sym (vector_is on)) begun in
+    let by_sr : made (at k.processor.cop0.sr (vector k.processor.cop0.sr)) = subst (λ a. made (at a (vector a))) (sym h.sr) placed_there in
+    subst (λ a. made (record k { processor = enter (record k.processor { context = a }) trap })) (sym h.context) by_sr

@@ -1,8 +1,5 @@
-use Rattle.kern_entry.proofs.Whole.{arrived}
+use Rattle.kern_entry.proofs.Whole.{stays_are_made}
 use Rattle.kern_entry.proofs.law.stays_are_made.Goals as goal
 
-a6 : Unit {0}
-a6 = let a = arrived in tt
-
 pub returns : goal.returns
-returns c = ?
+returns c = stays_are_made
