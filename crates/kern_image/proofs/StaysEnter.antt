@@ -1,5 +1,5 @@
 -- How the kernel is entered: by a code of five bits, and by a SYSCALL at an address that has a physical one alone.
-use Rattle.std.proofs.Common.{◌≡◌, ◌⊎◌, ℕ, ◌/◌, ◌%◌, ◌^◌, ◌<◌, ◌*◌, ◌+◌, Bool, true, false, Option, Some, None, refl, sym, ap, ◌∙◌, subst, arith, inl, inr, ⊎_elim}
+use Rattle.std.proofs.Common.{◌≡◌, ℕ, ◌/◌, ◌%◌, ◌^◌, ◌<◌, Bool, true, false, Option, Some, None, refl, sym, subst, arith, inl, inr}
 use Rattle.std.specs.Prelude.{◌||◌, ◌&&◌, not, nat_eq, is_some, ◌+ℤ◌, ◌-ℤ◌, if◌then◌else◌}
 use Rattle.std.proofs.lemmas.Bool.{false≢true}
 use Rattle.psx_ins.specs.declared.ins.Ins.{Ins}
@@ -12,10 +12,10 @@ use Rattle.psx_base.specs.Context.{Context}
 use Rattle.psx_base.specs.KernelState.{KernelState}
 use Rattle.psx_cpu.specs.Processor.{Trap}
 use Rattle.psx_cpu.specs.Words.{signed, has_word, sign_extended}
-use Rattle.psx_cpu.specs.Traps.{DataUse, data_use, is_aligned, misaligned, raises, own_trap, reserved_code}
-use Rattle.psx_cpu.specs.Guard.{guard_data, guard_instruction, guard_word, guard, is_branch, is_protected}
+use Rattle.psx_cpu.specs.Traps.{DataUse, data_use, is_aligned, raises, own_trap}
+use Rattle.psx_cpu.specs.Guard.{guard_data, guard_word, is_branch, is_protected}
 use Rattle.psx_cpu.specs.UserStep.{UserMove, Next, Raises, Halts, fetched, user_performed, user_step}
-use Rattle.abs_run.specs.Entered.{coming, interrupt, MayEnter}
+use Rattle.abs_run.specs.Entered.{interrupt, MayEnter}
 
 mirrored : (x y z u v : Bool) (p : ℕ) → ((((x || (y || z)) && u) || ((x || y) && v)) || is_some (gate_at (if x || (y || z) then p else 2 ^ 29))) ≡ true → (x || (y || z)) ≡ true
 mirrored true y z u v p h = refl

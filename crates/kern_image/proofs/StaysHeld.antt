@@ -1,9 +1,9 @@
 -- Memory that holds the ROM has the entry's words.
-use Rattle.std.proofs.Common.{◌≡◌, ℕ, ◌<◌, Bool, true, false, List, [], ◌∷◌, ◌++◌, refl, sym, ap, ◌∙◌, arith, ⊎_elim}
-use Rattle.std.specs.Prelude.{nat_le, nat_lt, ◌&&◌, ◌||◌, if◌then◌else◌}
+use Rattle.std.proofs.Common.{◌≡◌, ℕ, ◌<◌, Bool, true, List, [], ◌∷◌, ◌++◌, ap, ◌∙◌, ⊎_elim}
+use Rattle.std.specs.Prelude.{nat_le, nat_lt, ◌&&◌, if◌then◌else◌}
 use Rattle.std.specs.List.{list_any}
 use Rattle.std.proofs.lemmas.Bool.{false≢true, or_cases, or_left, or_right, lt-ltb}
-use Rattle.psx_base.specs.Memory.{Memory, word}
+use Rattle.psx_base.specs.Memory.{Memory}
 use Rattle.kern_layout.specs.declared.ranges.Range.{Range}
 use Rattle.kern_layout.specs.Ranges.{thread_code_range, event_code_range, timer_code_range, memory_code_range, text_code_range, printf_code_range, heap_code_range, file_code_range}
 use Rattle.kern_layout.specs.Numbers.{threads_at}

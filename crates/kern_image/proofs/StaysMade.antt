@@ -1,5 +1,5 @@
 -- Words that make a stay by their accesses make it step by step.
-use Rattle.std.proofs.Common.{◌≡◌, ℕ, zero, suc, ◌^◌, ◌<◌, List, [], ◌∷◌, Bool, true, false, cond, Option, Some, None, refl, sym, ap, ◌∙◌, subst, arith, inl, inr, ⊎_elim}
+use Rattle.std.proofs.Common.{◌≡◌, ℕ, zero, suc, List, [], ◌∷◌, Bool, true, false, cond, Option, Some, None, refl, sym, ap, ◌∙◌, subst, arith, inl, inr, ⊎_elim}
 use Rattle.std.specs.Prelude.{nat_eq}
 use Rattle.std.proofs.lemmas.Bool.{false≢true, true≢false, eqb-true}
 use Rattle.psx_base.specs.declared.ports.TheConstants.{CONSOLE_DATA, HALT, HALT_A, HALT_B, HALT_C}
@@ -16,7 +16,7 @@ use Rattle.abs_kernel.specs.StayLaws.{EachEnd}
 use Rattle.abs_run.specs.InKernel.{InKernel, side_of}
 use Rattle.abs_run.specs.Serves.{Runs}
 use Rattle.kern_entry.specs.Within.{Aim, Onto, Steps, Within}
-use Rattle.kern_entry.specs.Made.{read_of, written_of, after, is_own_port, IsWritten, Follows, given, Spared, IsBack, Returned, Halted, Made}
+use Rattle.kern_entry.specs.Made.{read_of, written_of, after, IsWritten, Follows, given, Spared, IsBack, Returned, Halted, Made}
 use Rattle.kern_image.proofs.StaysSeen.{Grown, grown, SeenOf, seen_of, same_bytes}
 use Rattle.kern_image.proofs.StaysRuns.{OnMove, HaltsAs, GoesHome, runs_step}
 

@@ -1,6 +1,6 @@
 -- What a step of the kernel's words shows, by the access that it makes.
 use Rattle.std.proofs.Common.{◌≡◌, ℕ, suc, ◌%◌, Option, Some, None, List, ◌∷◌, length, refl, sym, ap, ◌∙◌, arith, inl, inr, ◌⊎◌}
-use Rattle.std.specs.Prelude.{nat_eq, ◌||◌, is_some, if◌then◌else◌}
+use Rattle.std.specs.Prelude.{nat_eq, ◌||◌, is_some}
 use Rattle.psx_ins.specs.declared.ins.Ins.{Ins}
 use Rattle.psx_ins.specs.declared.ins.Ins.TheVariants.{LB, LH, LWL, LW, LBU, LHU, LWR, SB, SH, SWL, SW, SWR, RFE}
 use Rattle.psx_ins.specs.Decoding.{instruction_of}
