@@ -84,6 +84,7 @@ module _ (rom : List ℕ) (stay : Stay) (a b c : ℕ) where
       runs_step rom (after stay q) n (in_kernel k q) (λ bus lt. on_move k (step k bus) (seen_at k bus q) (f bus lt) (seen_of k bus q)),
     )
 
+  -- a step that makes no access leaves the memory of a stop as it is
   halts_at : (rest : Stay) (value x y z : ℕ) (k next : Core) → next.bytes ≡ k.bytes → HaltsAs rest value x y z next → HaltsAs rest value x y z k
   halts_at (Halt stop memory) value x y z k next e h = (h.0, λ p u. sym (ap (λ m. byte m p) e) ∙ h.1 p u)
   halts_at (Touch bytes rest) value x y z k next e h = halts_at rest value x y z k next e h
