@@ -1,9 +1,8 @@
 -- CAUSES: from Cause and EPC to the listing of the entrance.
 use Rattle.psx_flow.proofs.Kit.{◌≡◌, ℕ, ◌+◌, ◌*◌, ◌%◌, ◌^◌, ◌<◌, ◌≤◌, true, false, refl, sym, ap, ◌∙◌, subst, arith, Memory, Registers, Cop0, Run, Access, Meets, calls, kernel_words, fair, start, place}
-use Rattle.std.proofs.Common.{Bool, List, [], ◌/◌, Option, Some, None, ne_eqb}
+use Rattle.std.proofs.Common.{Bool, List, [], ◌/◌, Option, None, ne_eqb}
 use Rattle.std.specs.Prelude.{if◌then◌else◌, nat_eq}
 use Rattle.psx_base.specs.declared.address.Gate.{Gate}
-use Rattle.psx_base.specs.declared.address.Gate.TheVariants.{A, B, C, Done, Back}
 use Rattle.psx_base.specs.Addresses.{is_mirrored, low, gate_at, gate_of}
 use Rattle.psx_base.specs.Items.{Entrance, ByA, ByB, ByC, BySyscall, ByInterrupt, ByDone, ByBack, ByTrap}
 use Rattle.psx_cpu.specs.Exceptions.{cause_of}
@@ -94,8 +93,7 @@ causes_meets c code slot z on m p most more s h cause small mirror few =
             let mi = mirror eight out in
             let same : s.cop0.epc * 2 ^ 3 % 2 ^ 32 ≡ z.epc * 2 ^ 3 % 2 ^ 32 = ap (λ x. x * 2 ^ 3 % 2 ^ 32) epc in
             let gate : (g : Option Gate) → gate_of z.epc ≡ g → arrival (by_syscall false g) ≡ arrival (entrance code slot z.epc) = λ g. by_gate code slot z.epc g eight out in
-            let by : (q : ℕ) → q < 2 ^ 29 → s.cop0.epc * 2 ^ 3 % 2 ^ 32 ≡ 8 * q → gate_of z.epc ≡ gate_at q = λ q lt e. gate_by z.epc q mi lt (sym same ∙ e) in
-            (
+            let by : (q : ℕ) → q < 2 ^ 29 → s.cop0.epc * 2 ^ 3 % 2 ^ 32 ≡ 8 * q → gate_of z.epc ≡ gate_at q = λ q lt e. gate_by z.epc q mi lt (sym same ∙ e) in (
               λ a. (gate _ (by 0xA0 (omega arith) a), on_to _ _ _ refl refl refl refl refl (omega arith)),
               λ na. (
                 λ b. (gate _ (by 0xB0 (omega arith) b), on_to _ _ _ refl refl refl refl refl (omega arith)),

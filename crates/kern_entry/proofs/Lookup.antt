@@ -1,10 +1,10 @@
 -- The calls: from the number to the routine that the table has for it.
-use Rattle.psx_flow.proofs.Kit.{◌≡◌, ℕ, ◌+◌, ◌*◌, ◌%◌, ◌^◌, ◌<◌, ◌≤◌, true, false, refl, sym, ap, ◌∙◌, arith, ⊎_elim, [], Memory, word, Registers, Cop0, Run, Access, Meets, calls, kernel_words, fair, start, place, word_sort}
+use Rattle.psx_flow.proofs.Kit.{◌≡◌, ℕ, ◌+◌, ◌*◌, ◌%◌, ◌^◌, ◌<◌, ◌≤◌, false, refl, sym, ap, ◌∙◌, arith, ⊎_elim, [], Memory, word, Registers, Cop0, Run, Access, Meets, calls, kernel_words, fair, start, place, word_sort}
 use Rattle.std.proofs.Common.{Bool, List, Option, Some, None}
-use Rattle.std.specs.Prelude.{nat_lt, if◌then◌else◌}
+use Rattle.std.specs.Prelude.{nat_lt}
 use Rattle.std.proofs.lemmas.Bool.{cases_lt, lt-ltb}
 use Rattle.psx_base.specs.declared.stop.Table.{Table}
-use Rattle.psx_base.specs.declared.stop.Table.TheVariants.{A, B, C, Sys}
+use Rattle.psx_base.specs.declared.stop.Table.TheVariants.{A, B, C}
 use Rattle.psx_flow.specs.Told.{ports}
 use Rattle.psx_flow.proofs.Log.{Code}
 use Rattle.abs_kernel.specs.declared.calls.CallId.{CallId}

@@ -1,8 +1,7 @@
 -- Pieces of words in the order of their addresses.
 use Rattle.std.proofs.Common.{◌≡◌, ℕ, ◌+◌, ◌-◌, ◌*◌, ◌/◌, ◌%◌, ◌<◌, ◌≤◌, List, [], ◌∷◌, ◌++◌, length, get_or, Bool, true, false, refl, sym, ap, ◌∙◌, arith, ⊎_elim}
 use Rattle.std.specs.Prelude.{nat_le, nat_lt, nat_eq, ◌&&◌, ◌||◌, if◌then◌else◌}
-use Rattle.std.specs.List.{list_any}
-use Rattle.std.proofs.lemmas.Bool.{and_parts, leb-true, eqb-true, ltb-true, ne_eqb, false≢true, cases_eq, cases_lt, eq-eqb}
+use Rattle.std.proofs.lemmas.Bool.{and_parts, leb-true, eqb-true, ne_eqb, false≢true, cases_eq, cases_lt, eq-eqb}
 use Rattle.psx_base.specs.Memory.{Memory, word}
 use Rattle.kern_layout.specs.declared.ranges.Range.{Range}
 use Rattle.kern_entry.specs.Words.{over, overlaid}

@@ -1,12 +1,12 @@
 -- The entry's listings stand where they run, and the tables have their routines.
-use Rattle.std.proofs.Common.{◌≡◌, ℕ, ◌+◌, ◌*◌, ◌%◌, ◌^◌, ◌<◌, ◌≤◌, List, [], ◌∷◌, ◌++◌, length, get_or, Bool, true, false, Option, Some, None, refl, sym, ap, ◌∙◌, subst, arith, ne_eqb}
+use Rattle.std.proofs.Common.{◌≡◌, ℕ, ◌+◌, ◌*◌, ◌%◌, ◌^◌, ◌<◌, ◌≤◌, List, [], ◌∷◌, ◌++◌, length, get_or, Bool, true, false, Some, None, refl, ap, ◌∙◌, arith, ne_eqb}
 use Rattle.std.specs.Prelude.{nat_le, nat_eq, ◌&&◌, if◌then◌else◌}
 use Rattle.std.proofs.lemmas.Bool.{and_parts, leb-true, eqb-true}
 use Rattle.psx_base.specs.declared.stop.Table.TheVariants.{A, B, C}
 use Rattle.psx_base.specs.Memory.{Memory, word}
 use Rattle.psx_base.specs.Addresses.{place}
 use Rattle.psx_ins.specs.declared.ins.Ins.TheVariants.{JR, RFE}
-use Rattle.psx_flow.specs.Tree.{Tree, flat, size}
+use Rattle.psx_flow.specs.Tree.{Tree, flat}
 use Rattle.psx_flow.specs.Well.{fits}
 use Rattle.psx_flow.specs.Spaced.{is_spaced}
 use Rattle.psx_flow.specs.Lowered.{lowered, reaches}
@@ -25,7 +25,7 @@ use Rattle.kern_entry.specs.declared.leave.TheConstants.{LEAVE_NODES, BEHIND_NOD
 use Rattle.kern_entry.specs.EntryWords.{tree, k0, return_words, entry, vector_pieces, entry_pieces, leave_pieces, routine_pieces, tested_pieces, entry_word}
 use Rattle.kern_entry.specs.Words.{overlaid}
 use Rattle.kern_entry.specs.Holding.{entry_ranges, HoldsEntry}
-use Rattle.kern_entry.proofs.Pieces.{Pieces, AllRead, among, pieces_held, read_past, read_under, entry_read}
+use Rattle.kern_entry.proofs.Pieces.{Pieces, among, pieces_held, read_past, read_under, entry_read}
 use Rattle.kern_entry.proofs.Lookup.{table_word, TableAt, code_place}
 
 -- ---- words, one behind the other, in the kernel's code
@@ -141,24 +141,24 @@ pub all_placed : (m : Memory) → HoldsEntry m → AllPlaced m
 all_placed m h =
     let r = pieces_held m h in
     record {
-    vector = placed_by m VECTOR (tree VECTOR_NODES) refl refl refl refl (r.0);
-    save = placed_by m SAVE (tree SAVE_NODES) refl refl refl refl (r.1.1.1.1.1.1.1.1.1.1.1.0);
-    causes = placed_by m CAUSES (tree CAUSES_NODES) refl refl refl refl (r.1.1.1.1.1.1.1.1.1.1.1.1.0);
-    call_a = placed_by m CALL_A (tree CALL_A_NODES) refl refl refl refl (r.1.1.1.1.1.1.1.1.1.1.1.1.1.0);
-    call_b = placed_by m CALL_B (tree CALL_B_NODES) refl refl refl refl (r.1.1.1.1.1.1.1.1.1.1.1.1.1.1.0);
-    call_c = placed_by m CALL_C (tree CALL_C_NODES) refl refl refl refl (r.1.1.1.1.1.1.1.1.1.1.1.1.1.1.1.0);
-    unserved = placed_by m UNSERVED (tree UNSERVED_NODES) refl refl refl refl (r.1.1.1.1.1.1.1.1.1.1.1.1.1.1.1.1.0);
-    exception = placed_by m EXCEPTION (tree EXCEPTION_NODES) refl refl refl refl (r.1.1.1.1.1.1.1.1.1.1.1.1.1.1.1.1.1.0);
-    leave = placed_by m LEAVE (tree LEAVE_NODES) refl refl refl refl (r.1.1.1.1.1.1.1.1.1.1.1.1.1.1.1.1.1.1.0);
-    behind = placed_by m BEHIND (tree BEHIND_NODES) refl refl refl refl (r.1.1.1.1.1.1.1.1.1.1.1.1.1.1.1.1.1.1.1.0);
-    resume = placed_by m RESUME (tree RESUME_NODES) refl refl refl refl (r.1.1.1.1.1.1.1.1.1.1.1.1.1.1.1.1.1.1.1.1.0);
-    exit = placed_by m EXIT (tree EXIT_NODES) refl refl refl refl (r.1.1.1.1.1.1.1.1.1.1.1.1.1.1.1.1.1.1.1.1.1.1.1.0);
-    done = placed_by m DONE (tree DONE_NODES) refl refl refl refl (r.1.1.1.1.1.1.1.1.1.1.1.1.1.1.1.1.1.1.1.1.1.1.1.1.0);
-    back = placed_by m BACK (tree BACK_NODES) refl refl refl refl (r.1.1.1.1.1.1.1.1.1.1.1.1.1.1.1.1.1.1.1.1.1.1.1.1.1.0);
-    putchar = placed_by m PUTCHAR (tree PUTCHAR_NODES) refl refl refl refl (r.1.1.1.1.1.1.1.1.1.1.1.1.1.1.1.1.1.1.1.1.1.1.1.1.1.1.0);
-    syscalls = placed_by m SYSCALLS (tree SYSCALLS_NODES) refl refl refl refl (r.1.1.1.1.1.1.1.1.1.1.1.1.1.1.1.1.1.1.1.1.1.1.1.1.1.1.1.0);
-    return = as_code kernel_words m RETURN (JR k0 ∷ RFE ∷ []) (code_stands m RETURN return_words refl (r.1.1.1.1.1.1.1.1.1.1.1.1.1.1.1.1.1.1.1.1.1.0));
-    table_a = record { within = λ n lt. h (0x200 + 4 * n) (omega arith) (among entry_ranges 0x200 0x500 (0x200 + 4 * n) refl (omega arith) (omega arith)) ∙ a_word n lt; behind = a_behind };
-    table_b = record { within = λ n lt. h (0x874 + 4 * n) (omega arith) (among entry_ranges 0x874 0x9F0 (0x874 + 4 * n) refl (omega arith) (omega arith)) ∙ b_word n lt; behind = b_behind };
-    table_c = record { within = λ n lt. h (0x674 + 4 * n) (omega arith) (among entry_ranges 0x674 0x6F4 (0x674 + 4 * n) refl (omega arith) (omega arith)) ∙ c_word n lt; behind = λ n le. refl };
+      vector = placed_by m VECTOR (tree VECTOR_NODES) refl refl refl refl (r.0);
+      save = placed_by m SAVE (tree SAVE_NODES) refl refl refl refl (r.1.1.1.1.1.1.1.1.1.1.1.0);
+      causes = placed_by m CAUSES (tree CAUSES_NODES) refl refl refl refl (r.1.1.1.1.1.1.1.1.1.1.1.1.0);
+      call_a = placed_by m CALL_A (tree CALL_A_NODES) refl refl refl refl (r.1.1.1.1.1.1.1.1.1.1.1.1.1.0);
+      call_b = placed_by m CALL_B (tree CALL_B_NODES) refl refl refl refl (r.1.1.1.1.1.1.1.1.1.1.1.1.1.1.0);
+      call_c = placed_by m CALL_C (tree CALL_C_NODES) refl refl refl refl (r.1.1.1.1.1.1.1.1.1.1.1.1.1.1.1.0);
+      unserved = placed_by m UNSERVED (tree UNSERVED_NODES) refl refl refl refl (r.1.1.1.1.1.1.1.1.1.1.1.1.1.1.1.1.0);
+      exception = placed_by m EXCEPTION (tree EXCEPTION_NODES) refl refl refl refl (r.1.1.1.1.1.1.1.1.1.1.1.1.1.1.1.1.1.0);
+      leave = placed_by m LEAVE (tree LEAVE_NODES) refl refl refl refl (r.1.1.1.1.1.1.1.1.1.1.1.1.1.1.1.1.1.1.0);
+      behind = placed_by m BEHIND (tree BEHIND_NODES) refl refl refl refl (r.1.1.1.1.1.1.1.1.1.1.1.1.1.1.1.1.1.1.1.0);
+      resume = placed_by m RESUME (tree RESUME_NODES) refl refl refl refl (r.1.1.1.1.1.1.1.1.1.1.1.1.1.1.1.1.1.1.1.1.0);
+      exit = placed_by m EXIT (tree EXIT_NODES) refl refl refl refl (r.1.1.1.1.1.1.1.1.1.1.1.1.1.1.1.1.1.1.1.1.1.1.1.0);
+      done = placed_by m DONE (tree DONE_NODES) refl refl refl refl (r.1.1.1.1.1.1.1.1.1.1.1.1.1.1.1.1.1.1.1.1.1.1.1.1.0);
+      back = placed_by m BACK (tree BACK_NODES) refl refl refl refl (r.1.1.1.1.1.1.1.1.1.1.1.1.1.1.1.1.1.1.1.1.1.1.1.1.1.0);
+      putchar = placed_by m PUTCHAR (tree PUTCHAR_NODES) refl refl refl refl (r.1.1.1.1.1.1.1.1.1.1.1.1.1.1.1.1.1.1.1.1.1.1.1.1.1.1.0);
+      syscalls = placed_by m SYSCALLS (tree SYSCALLS_NODES) refl refl refl refl (r.1.1.1.1.1.1.1.1.1.1.1.1.1.1.1.1.1.1.1.1.1.1.1.1.1.1.1.0);
+      return = as_code kernel_words m RETURN (JR k0 ∷ RFE ∷ []) (code_stands m RETURN return_words refl (r.1.1.1.1.1.1.1.1.1.1.1.1.1.1.1.1.1.1.1.1.1.0));
+      table_a = record { within = λ n lt. h (0x200 + 4 * n) (omega arith) (among entry_ranges 0x200 0x500 (0x200 + 4 * n) refl (omega arith) (omega arith)) ∙ a_word n lt; behind = a_behind };
+      table_b = record { within = λ n lt. h (0x874 + 4 * n) (omega arith) (among entry_ranges 0x874 0x9F0 (0x874 + 4 * n) refl (omega arith) (omega arith)) ∙ b_word n lt; behind = b_behind };
+      table_c = record { within = λ n lt. h (0x674 + 4 * n) (omega arith) (among entry_ranges 0x674 0x6F4 (0x674 + 4 * n) refl (omega arith) (omega arith)) ∙ c_word n lt; behind = λ n le. refl };
     }

@@ -1,5 +1,5 @@
 -- The last two words: the jump to k0, and the return from the exception in its slot.
-use Rattle.std.proofs.Common.{◌≡◌, ℕ, suc, ◌+◌, ◌/◌, ◌%◌, ◌^◌, List, [], ◌∷◌, Bool, true, false, Option, Some, None, refl, ap, ◌∙◌, arith, eq-eqb, ne_eqb}
+use Rattle.std.proofs.Common.{◌≡◌, ℕ, suc, ◌+◌, ◌/◌, ◌%◌, ◌^◌, List, [], ◌∷◌, Bool, true, false, Some, None, refl, ap, ◌∙◌, arith, eq-eqb, ne_eqb}
 use Rattle.std.specs.Prelude.{nat_eq, if◌then◌else◌}
 use Rattle.psx_ins.specs.declared.ins.Ins.TheVariants.{JR, RFE}
 use Rattle.psx_ins.specs.Decoding.{instruction_of}
@@ -67,9 +67,13 @@ return_from Z c pc on m p most n first e words keeps r shown =
     let off : e.cop0.sr % 2 ≡ 0 = ap (λ x. x % 2) r.sr ∙ sr_even on in
     one kernel_words first (Within Z) (within_backs Z) n (state_at e RETURN) e.seen (JR k0) refl off (fetched kernel_words first e RETURN (JR k0) keeps words.0 refl) refl refl (λ bus lt.
     let x : State = effect (JR k0) (state_at e RETURN) bus in
-    within_here Z n (kernel_core x) e.seen (shown (kernel_core x) (record (kernel_core x) { processor = leave (kernel_core x).processor }, record {
-      context = (λ i. record { regs = r.regs i; pending = None; pc = (r.regs i).r26; next = ((r.regs i).r26 + 4) % 2 ^ 32; in_slot = false });
-      sr = ap left_sr r.sr ∙ sr_back on;
-      latch = refl;
-      spared = r.spared;
-    }, λ b. rfe_leaves x b refl off (fetched kernel_words first e (RETURN + 4) RFE keeps words.1.0 refl))))
+    within_here Z n (kernel_core x) e.seen (shown (kernel_core x) (
+      record (kernel_core x) { processor = leave (kernel_core x).processor },
+      record {
+        context = (λ i. record { regs = r.regs i; pending = None; pc = (r.regs i).r26; next = ((r.regs i).r26 + 4) % 2 ^ 32; in_slot = false });
+        sr = ap left_sr r.sr ∙ sr_back on;
+        latch = refl;
+        spared = r.spared;
+      },
+      λ b. rfe_leaves x b refl off (fetched kernel_words first e (RETURN + 4) RFE keeps words.1.0 refl),
+    )))

@@ -14,8 +14,8 @@ use Rattle.kern_entry.specs.declared.stops.TheConstants.{UNSERVED_NODES, EXCEPTI
 use Rattle.kern_entry.specs.declared.sys.TheConstants.{SYSCALLS_NODES}
 use Rattle.kern_entry.specs.EntryWords.{tree}
 use Rattle.kern_entry.specs.Made.{Spared}
-use Rattle.kern_entry.proofs.WorkArea.{held, Holds, Entered, holds_on, entered_on, applied_spared, spared_then, area_put, area_sr}
-use Rattle.kern_entry.proofs.Choosing.{cause_with, code_is}
+use Rattle.kern_entry.proofs.WorkArea.{held, Holds, Entered, holds_on, applied_spared, spared_then, area_put, area_sr}
+use Rattle.kern_entry.proofs.Choosing.{code_is}
 
 -- the last access writes a code to the halt port, behind these to ports
 pub record Stops (code : ℕ) (writes : List Access) (m : Memory) (most : ℕ) (e : Run) : Type 0 where
@@ -72,7 +72,7 @@ module _ (c : Registers) (z : Cop0) (on : Bool) (m : Memory) (p : List Access) (
   exception_meets code slot cause small =
       let within = h.holds.within in
       let coded : (line : Bool) → (s.cop0.cause + (if line then 2 ^ 10 else 0)) * 2 ^ 25 % 2 ^ 32 / 2 ^ 27 ≡ code = λ line.
-          ap (λ x. (x.cause + (if line then 2 ^ 10 else 0)) * 2 ^ 25 % 2 ^ 32 / 2 ^ 27) h.cop0 ∙ ap (λ x. (x + (if line then 2 ^ 10 else 0)) * 2 ^ 25 % 2 ^ 32 / 2 ^ 27) cause ∙ code_is code slot line small in
+      ap (λ x. (x.cause + (if line then 2 ^ 10 else 0)) * 2 ^ 25 % 2 ^ 32 / 2 ^ 27) h.cop0 ∙ ap (λ x. (x + (if line then 2 ^ 10 else 0)) * 2 ^ 25 % 2 ^ 32 / 2 ^ 27) cause ∙ code_is code slot line small in
       start (calls kernel_words []) (fair kernel_words []) (tree EXCEPTION_NODES) EXCEPTION (λ e. Stops 2 (PortWrite HALT_B z.epc ∷ PortWrite HALT_A code ∷ p) m more e) (λ _ _. ⊥) s
       (λ line. record { rest = _; seen = refl; told = (λ i. PortWrite HALT_B ((h.cop0 i).epc) ∷ PortWrite HALT_A (coded line i) ∷ h.holds.ports i); spared = h.holds.spared; within = omega arith })
 
@@ -136,12 +136,15 @@ module _ (c : Registers) (z : Cop0) (on : Bool) (m : Memory) (p : List Access) (
       sys_start 1 (
         λ y. absurd (omega (arith, e, y)),
         λ _. (
-          λ _. (refl, record {
-            area = off_area x (ap (λ v. bit_and (v / 2 ^ 2) 1) (area_sr s.bytes c z.epc on h.holds.area) ∙ sr_bit on);
-            spared = spared_then m s.bytes _ h.holds.spared (applied_spared s.bytes (KernelWord 0xEB94 0x400 ∷ KernelWord 0xEB10 x ∷ []) refl);
-            ports = h.holds.ports;
-            within = omega arith;
-          }),
+          λ _. (
+            refl,
+            record {
+              area = off_area x (ap (λ v. bit_and (v / 2 ^ 2) 1) (area_sr s.bytes c z.epc on h.holds.area) ∙ sr_bit on);
+              spared = spared_then m s.bytes _ h.holds.spared (applied_spared s.bytes (KernelWord 0xEB94 0x400 ∷ KernelWord 0xEB10 x ∷ []) refl);
+              ports = h.holds.ports;
+              within = omega arith;
+            },
+          ),
           λ ne. absurd (ne e),
         ),
       )
@@ -152,12 +155,15 @@ module _ (c : Registers) (z : Cop0) (on : Bool) (m : Memory) (p : List Access) (
         λ _. (
           λ y. absurd (omega (arith, e, y)),
           λ _. (
-            λ _. (refl, record {
-              area = area_put s.bytes 0x94 0x404 (saved (held c z.epc on)) _ refl refl refl h.holds.area;
-              spared = spared_then m s.bytes _ h.holds.spared (applied_spared s.bytes (KernelWord 0xEB94 0x404 ∷ []) refl);
-              ports = h.holds.ports;
-              within = omega arith;
-            }),
+            λ _. (
+              refl,
+              record {
+                area = area_put s.bytes 0x94 0x404 (saved (held c z.epc on)) _ refl refl refl h.holds.area;
+                spared = spared_then m s.bytes _ h.holds.spared (applied_spared s.bytes (KernelWord 0xEB94 0x404 ∷ []) refl);
+                ports = h.holds.ports;
+                within = omega arith;
+              },
+            ),
             λ ne. absurd (ne e),
           ),
         ),

@@ -1,6 +1,6 @@
 -- From each listing on a stay is made, where it is from the listings to which it goes.
-use Rattle.std.proofs.Common.{◌≡◌, ℕ, suc, ◌+◌, ◌-◌, ◌*◌, ◌%◌, ◌^◌, ◌<◌, ◌≤◌, List, [], ◌∷◌, Bool, Option, Some, None, refl, sym, ap, ◌∙◌, subst, arith}
-use Rattle.psx_base.specs.declared.ports.TheConstants.{CONSOLE_DATA, HALT_A, HALT_B, HALT_C, HALT}
+use Rattle.std.proofs.Common.{◌≡◌, ℕ, suc, ◌+◌, ◌-◌, ◌*◌, ◌%◌, ◌^◌, ◌<◌, ◌≤◌, List, [], ◌∷◌, Bool, Some, refl, sym, ap, ◌∙◌, subst, arith}
+use Rattle.psx_base.specs.declared.ports.TheConstants.{CONSOLE_DATA, HALT_A, HALT_B, HALT_C}
 use Rattle.psx_base.specs.declared.stop.Stop.{Stop}
 use Rattle.psx_base.specs.Memory.{Memory}
 use Rattle.psx_base.specs.Registers.{Registers}
@@ -83,7 +83,7 @@ module _ (m : Memory) (all : AllPlaced m) (stay : Stay) where
   made_halt k e code most p same s h =
       let P : Stay → Type 0 = λ y. Halted m y code s.rest k in
       let told : (a b c : ℕ) → halt_stop code (given HALT_A a s.rest) (given HALT_B b s.rest) (given HALT_C c s.rest) ≡ Some h.stop = λ a b c.
-          (λ i. halt_stop code (given_at HALT_A a s.rest p s.told i) (given_at HALT_B b s.rest p s.told i) (given_at HALT_C c s.rest p s.told i)) ∙ h.stops a b c in
+      (λ i. halt_stop code (given_at HALT_A a s.rest p s.told i) (given_at HALT_B b s.rest p s.told i) (given_at HALT_C c s.rest p s.told i)) ∙ h.stops a b c in
       subst (λ x. Made m stay k x) (sym s.seen) (follows_at s.rest p s.told h.follows, subst P (sym (is_at s.rest p (Halt h.stop h.memory) s.told h.is)) (told, subst (Spared m) (sym same) s.spared))
 
   -- a listing that stops

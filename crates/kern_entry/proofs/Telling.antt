@@ -1,5 +1,5 @@
 -- A stay is followed by the accesses to ports alone.
-use Rattle.std.proofs.Common.{◌≡◌, ℕ, List, [], ◌∷◌, refl, sym, ap, ◌∙◌, subst}
+use Rattle.std.proofs.Common.{◌≡◌, ℕ, List, [], ◌∷◌, refl, sym, ap, subst}
 use Rattle.std.specs.Prelude.{nat_eq, if◌then◌else◌}
 use Rattle.psx_flow.specs.Run.{Access, Load, Store, PortRead, PortWrite}
 use Rattle.psx_flow.specs.Told.{ports}

@@ -2,7 +2,7 @@
 use Rattle.std.proofs.Common.{◌≡◌, ℕ, zero, suc, ◌+◌, ◌-◌, ◌*◌, ◌%◌, ◌^◌, ◌<◌, ◌≤◌, List, [], ◌∷◌, Bool, true, false, Option, Some, None, refl, sym, ap, ◌∙◌, subst, arith}
 use Rattle.std.specs.Prelude.{if◌then◌else◌, unwrap_or}
 use Rattle.std.proofs.lemmas.Bool.{lt-ltb}
-use Rattle.psx_base.specs.declared.ports.TheConstants.{CONSOLE_DATA, HALT_A, HALT_B, HALT_C}
+use Rattle.psx_base.specs.declared.ports.TheConstants.{HALT_A, HALT_B, HALT_C}
 use Rattle.psx_base.specs.declared.stop.Table.{Table}
 use Rattle.psx_base.specs.declared.stop.Table.TheVariants.{A, B, C, Sys}
 use Rattle.psx_base.specs.declared.stop.Stop.TheVariants.{Exit, Exception, Unserved, BadReturn}
@@ -12,11 +12,10 @@ use Rattle.psx_base.specs.Context.{Context, settled, settle, epc_of, placed, tak
 use Rattle.psx_base.specs.Addresses.{is_mirrored}
 use Rattle.psx_base.specs.Items.{Entrance, ByA, ByB, ByC, BySyscall, ByInterrupt, ByDone, ByBack, ByTrap}
 use Rattle.psx_base.specs.KernelState.{KernelState}
-use Rattle.psx_cpu.specs.Processor.{Core, Cop0, Trap, Processor}
+use Rattle.psx_cpu.specs.Processor.{Core, Cop0}
 use Rattle.psx_cpu.specs.Exceptions.{cause_of, entered_sr, vector, enter}
 use Rattle.psx_ports.specs.HaltCodes.{table_of}
-use Rattle.psx_flow.specs.Run.{Run, Access, PortWrite, state_at}
-use Rattle.psx_flow.specs.Plain.{kernel_core}
+use Rattle.psx_flow.specs.Run.{Run, Access, PortWrite}
 use Rattle.psx_flow.specs.Kernel.{kernel_words}
 use Rattle.psx_flow.specs.Tree.{Tree}
 use Rattle.psx_flow.specs.Meets.{Meets, calls}
@@ -39,14 +38,14 @@ use Rattle.kern_entry.specs.declared.sys.TheConstants.{SYSCALLS_NODES}
 use Rattle.kern_entry.specs.EntryWords.{tree}
 use Rattle.kern_entry.specs.Within.{Within}
 use Rattle.kern_entry.specs.Made.{Made}
-use Rattle.kern_entry.specs.EntryLaws.{Enters, StaysAreMade}
+use Rattle.kern_entry.specs.EntryLaws.{StaysAreMade}
 use Rattle.kern_entry.proofs.WorkArea.{Holds, Entered}
 use Rattle.kern_entry.proofs.Saving.{Arrived, vector_meets, save_meets}
 use Rattle.kern_entry.proofs.Choosing.{arrival, causes_meets}
 use Rattle.kern_entry.proofs.Lookup.{destination, TableAt, Called, call_a_meets, call_b_meets, call_c_meets}
 use Rattle.kern_entry.proofs.Routines.{was_on, SysGoes, SysStops, sys_meets}
 use Rattle.kern_entry.proofs.Placed.{AllPlaced, all_placed}
-use Rattle.kern_entry.proofs.Stages.{Shown, walks, Returns, HaltsBy, exit_shown, done_shown, back_shown, unserved_shown, exception_shown, putchar_shown, behind_shown, stops_here}
+use Rattle.kern_entry.proofs.Stages.{Shown, walks, Returns, exit_shown, done_shown, back_shown, unserved_shown, exception_shown, putchar_shown, behind_shown, stops_here}
 
 -- the table that a word of a halt names
 abbrev table_number : Table → ℕ
@@ -249,7 +248,7 @@ stays_are_made k s trap h =
     let cop : ℕ → Cop0 = λ sr. record { sr = entered_sr sr; cause = cause_of trap.code x.in_slot; epc = epc_of x; bad_address = bad } in
     let at : ℕ → ℕ → Core = λ sr pc. record { processor = record { context = placed (settle x) pc; cop0 = cop sr; latch = true }; bytes = m } in
     let begun : made (at (user_sr on) VECTOR) =
-        vector_shown m (all_placed m h.words) s trap.code (entered_sr (user_sr on)) bad h.code (sr_entered on) (sr_off on) (λ e out. mirror_of x out (h.mirrored e out)) 802 (omega arith) in
+    vector_shown m (all_placed m h.words) s trap.code (entered_sr (user_sr on)) bad h.code (sr_entered on) (sr_off on) (λ e out. mirror_of x out (h.mirrored e out)) 802 (omega arith) in
     let placed_there : made (at (user_sr on) (vector (user_sr on))) = subst (λ a. made (at (user_sr on) a)) (sym (vector_is on)) begun in
     let by_sr : made (at k.processor.cop0.sr (vector k.processor.cop0.sr)) = subst (λ a. made (at a (vector a))) (sym h.sr) placed_there in
     subst (λ a. made (record k { processor = enter (record k.processor { context = a }) trap })) (sym h.context) by_sr

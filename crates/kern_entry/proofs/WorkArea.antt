@@ -1,8 +1,8 @@
 -- The work area while the kernel runs: which context it holds, what a store makes of it, and that no other memory is written.
-use Rattle.std.proofs.Common.{◌≡◌, ℕ, ◌+◌, ◌%◌, ◌^◌, ◌<◌, ◌≤◌, ◌⊎◌, inl, inr, List, [], ◌∷◌, Bool, true, false, None, refl, sym, ◌∙◌, subst, arith, ⊎_elim}
+use Rattle.std.proofs.Common.{◌≡◌, ℕ, ◌+◌, ◌%◌, ◌^◌, ◌<◌, ◌≤◌, ◌⊎◌, List, [], ◌∷◌, Bool, true, false, None, refl, ◌∙◌, subst, arith}
 use Rattle.std.specs.Prelude.{nat_le, ◌&&◌}
 use Rattle.std.proofs.lemmas.Bool.{and_parts, leb-true, false≢true}
-use Rattle.psx_base.specs.Memory.{Memory, byte, word, put_word}
+use Rattle.psx_base.specs.Memory.{Memory, word, put_word}
 use Rattle.psx_base.specs.Registers.{Registers}
 use Rattle.psx_base.specs.KernelState.{ThreadContext}
 use Rattle.psx_ram.specs.Apart.{apart}
