@@ -11,3 +11,9 @@ pub mod BootWords
 pub mod BootEnd
 pub mod BootStart
 pub mod Booted
+pub mod StaysSeen
+pub mod StaysRuns
+pub mod StaysMade
+pub mod StaysStand
+pub mod StaysEnter
+pub mod StaysHeld
