@@ -17,3 +17,4 @@ pub mod StaysMade
 pub mod StaysStand
 pub mod StaysEnter
 pub mod StaysHeld
+pub mod ServesEvery
