@@ -15,3 +15,4 @@ pub mod Returning
 pub mod Telling
 pub mod Stages
 pub mod Whole
+pub mod Joins

@@ -16,12 +16,12 @@ use Rattle.psx_flow.proofs.Placing.{stands_by, lies_low}
 use Rattle.psx_flow.proofs.Step.{StandsAs, as_code}
 use Rattle.abs_kernel.specs.declared.calls.CallId.TheVariants.{A06, A3A, A3C, B38, B3D}
 use Rattle.abs_kernel.specs.CallTable.{served_call}
-use Rattle.kern_entry.specs.declared.places.TheConstants.{VECTOR, SAVE, CAUSES, CALL_A, CALL_B, CALL_C, UNSERVED, EXCEPTION, LEAVE, BEHIND, RESUME, EXIT, DONE, BACK, PUTCHAR, SYSCALLS}
+use Rattle.kern_entry.specs.declared.places.TheConstants.{VECTOR, SAVE, CAUSES, CALL_A, CALL_B, CALL_C, UNSERVED, EXCEPTION, LEAVE, BEHIND, RESUME, WORK, EXIT, DONE, BACK, PUTCHAR, SYSCALLS}
 use Rattle.kern_entry.specs.declared.save.TheConstants.{VECTOR_NODES, SAVE_NODES, CAUSES_NODES}
 use Rattle.kern_entry.specs.declared.calls.TheConstants.{CALL_A_NODES, CALL_B_NODES, CALL_C_NODES, EXIT_NODES, PUTCHAR_NODES}
 use Rattle.kern_entry.specs.declared.stops.TheConstants.{UNSERVED_NODES, EXCEPTION_NODES, DONE_NODES, BACK_NODES}
 use Rattle.kern_entry.specs.declared.sys.TheConstants.{SYSCALLS_NODES}
-use Rattle.kern_entry.specs.declared.leave.TheConstants.{LEAVE_NODES, BEHIND_NODES, RESUME_NODES, RETURN}
+use Rattle.kern_entry.specs.declared.leave.TheConstants.{LEAVE_NODES, BEHIND_NODES, RESUME_NODES, WORK_NODES, RETURN}
 use Rattle.kern_entry.specs.EntryWords.{tree, k0, return_words, entry, vector_pieces, entry_pieces, leave_pieces, routine_pieces, tested_pieces, entry_word}
 use Rattle.kern_entry.specs.Words.{overlaid}
 use Rattle.kern_entry.specs.Holding.{entry_ranges, HoldsEntry}
@@ -126,6 +126,7 @@ pub record AllPlaced (m : Memory) : Type 0 where
   pub exception : IsPlaced kernel_words m EXCEPTION (tree EXCEPTION_NODES)
   pub leave : IsPlaced kernel_words m LEAVE (tree LEAVE_NODES)
   pub behind : IsPlaced kernel_words m BEHIND (tree BEHIND_NODES)
+  pub work : IsPlaced kernel_words m WORK (tree WORK_NODES)
   pub resume : IsPlaced kernel_words m RESUME (tree RESUME_NODES)
   pub exit : IsPlaced kernel_words m EXIT (tree EXIT_NODES)
   pub done : IsPlaced kernel_words m DONE (tree DONE_NODES)
@@ -151,6 +152,7 @@ all_placed m h =
       exception = placed_by m EXCEPTION (tree EXCEPTION_NODES) refl refl refl refl (r.1.1.1.1.1.1.1.1.1.1.1.1.1.1.1.1.1.0);
       leave = placed_by m LEAVE (tree LEAVE_NODES) refl refl refl refl (r.1.1.1.1.1.1.1.1.1.1.1.1.1.1.1.1.1.1.0);
       behind = placed_by m BEHIND (tree BEHIND_NODES) refl refl refl refl (r.1.1.1.1.1.1.1.1.1.1.1.1.1.1.1.1.1.1.1.0);
+      work = placed_by m WORK (tree WORK_NODES) refl refl refl refl (r.1.1.1.1.1.1.1.1.1.1.1.1.1.1.1.1.1.1.1.1.1.1.0);
       resume = placed_by m RESUME (tree RESUME_NODES) refl refl refl refl (r.1.1.1.1.1.1.1.1.1.1.1.1.1.1.1.1.1.1.1.1.0);
       exit = placed_by m EXIT (tree EXIT_NODES) refl refl refl refl (r.1.1.1.1.1.1.1.1.1.1.1.1.1.1.1.1.1.1.1.1.1.1.1.0);
       done = placed_by m DONE (tree DONE_NODES) refl refl refl refl (r.1.1.1.1.1.1.1.1.1.1.1.1.1.1.1.1.1.1.1.1.1.1.1.1.0);

@@ -17,17 +17,17 @@ use Rattle.psx_flow.specs.Meets.{Goal, Meets, calls}
 use Rattle.psx_flow.specs.Reaches.{IsPlaced, Keeps}
 use Rattle.kern_layout.specs.Stands.{user_sr}
 use Rattle.abs_kernel.specs.Stay.{Stay, Return, Halt}
-use Rattle.kern_entry.specs.declared.places.TheConstants.{LEAVE, BEHIND, RESUME, EXIT, DONE, BACK, UNSERVED, EXCEPTION, PUTCHAR}
+use Rattle.kern_entry.specs.declared.places.TheConstants.{LEAVE, BEHIND, RESUME, WORK, EXIT, DONE, BACK, UNSERVED, EXCEPTION, PUTCHAR}
 use Rattle.kern_entry.specs.declared.calls.TheConstants.{EXIT_NODES, PUTCHAR_NODES}
 use Rattle.kern_entry.specs.declared.stops.TheConstants.{UNSERVED_NODES, EXCEPTION_NODES, DONE_NODES, BACK_NODES}
-use Rattle.kern_entry.specs.declared.leave.TheConstants.{LEAVE_NODES, BEHIND_NODES, RESUME_NODES, RETURN}
+use Rattle.kern_entry.specs.declared.leave.TheConstants.{LEAVE_NODES, BEHIND_NODES, RESUME_NODES, WORK_NODES, RETURN}
 use Rattle.kern_entry.specs.EntryWords.{tree}
 use Rattle.kern_entry.specs.Within.{Within}
 use Rattle.kern_entry.specs.Made.{after, Follows, given, IsBack, Leaving, Returned, Halted, Spared, Made}
 use Rattle.kern_entry.proofs.Walk.{walk_placed, within_backs, within_here}
 use Rattle.kern_entry.proofs.WorkArea.{Holds, Entered}
 use Rattle.kern_entry.proofs.Routines.{Stops, Answers, Exits, exit_meets, done_meets, back_meets, unserved_meets, exception_meets, putchar_meets}
-use Rattle.kern_entry.proofs.Leaving.{Resumed, leave_meets, behind_meets, resume_meets}
+use Rattle.kern_entry.proofs.Leaving.{Resumed, leave_meets, behind_meets, work_meets, resume_meets}
 use Rattle.kern_entry.proofs.Returning.{back_to, Back, return_from}
 use Rattle.kern_entry.proofs.Telling.{after_ports, follows_ports, given_ports}
 use Rattle.kern_entry.proofs.Placed.{AllPlaced}
@@ -123,6 +123,9 @@ module _ (m : Memory) (all : AllPlaced m) (stay : Stay) where
 
   pub behind_shown : (c : Registers) (pc : ℕ) (on : Bool) (p : List Access) (s : Run) → Keeping s → Holds c pc on m p 130 s → Returns c ((pc + 4) % 2 ^ 32) on p → Shown s BEHIND
   behind_shown c pc on p s ks h r = to_resume (tree BEHIND_NODES) BEHIND c ((pc + 4) % 2 ^ 32) on p s all.behind ks r (behind_meets c pc on m p 130 150 s h (omega arith))
+
+  pub work_shown : (c : Registers) (pc : ℕ) (on : Bool) (p : List Access) (s : Run) → Keeping s → Holds c pc on m p 130 s → Returns c pc on p → Shown s WORK
+  work_shown c pc on p s ks h r = to_resume (tree WORK_NODES) WORK c pc on p s all.work ks r (work_meets c pc on m p 130 150 s h (omega arith))
 
   -- ---- the routines
 
