@@ -2,3 +2,9 @@ pub mod Bytes
 pub mod Pieces
 pub mod RomLemmas
 pub mod Fixed
+pub mod StaysSeen
+pub mod StaysRuns
+pub mod StaysMade
+pub mod StaysStand
+pub mod StaysEnter
+pub mod StaysHeld

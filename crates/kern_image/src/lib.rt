@@ -5,6 +5,7 @@
 pub mod boot;
 pub mod image;
 pub mod laws;
+pub mod stays;
 #[cfg(test)]
 mod tests;
 
