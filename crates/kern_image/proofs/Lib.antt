@@ -8,3 +8,12 @@ pub mod StaysMade
 pub mod StaysStand
 pub mod StaysEnter
 pub mod StaysHeld
+pub mod BootWalk
+pub mod BootStep
+pub mod BootSound
+pub mod BootCopy
+pub mod BootLoop
+pub mod BootWords
+pub mod BootEnd
+pub mod BootStart
+pub mod Booted

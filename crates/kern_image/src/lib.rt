@@ -3,6 +3,7 @@
 #![tactic(auto)]
 
 pub mod boot;
+pub mod boots;
 pub mod image;
 pub mod laws;
 pub mod stays;
