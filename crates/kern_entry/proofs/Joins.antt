@@ -1,9 +1,9 @@
 -- From LEAVE and WORK on the words return.
-use Rattle.std.proofs.Common.{◌≡◌, ℕ, ◌+◌, ◌%◌, ◌^◌, [], None, false, refl, sym, ap, ◌∙◌, subst, arith}
+use Rattle.std.proofs.Common.{◌≡◌, ℕ, ◌+◌, ◌%◌, ◌^◌, [], None, false, refl, ap, ◌∙◌, arith}
 use Rattle.psx_base.specs.Context.{Context, settled, taken}
 use Rattle.psx_base.specs.Memory.{Memory}
 use Rattle.psx_base.specs.Registers.{Registers}
-use Rattle.psx_base.specs.KernelState.{ThreadContext, KernelState}
+use Rattle.psx_base.specs.KernelState.{ThreadContext}
 use Rattle.psx_cpu.specs.Processor.{Cop0}
 use Rattle.psx_flow.specs.Run.{Run}
 use Rattle.psx_flow.specs.Kernel.{kernel_words}

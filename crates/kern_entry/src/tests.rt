@@ -1,5 +1,7 @@
 //! Words of the block behind `place`, encoded by hand from the R3000A manual's instruction formats.
+use crate::law::{routines_return, stays_are_made};
 use crate::place;
+use crate::stepwise::words_walk;
 use kern_layout::KernelBlock;
 use std::test::Fail;
 
@@ -31,4 +33,11 @@ fn places_the_entry(rt: HostRuntime) -> Result<(), Fail> {
     assert_eq!(rt; block.word(0x954), 0x8000_1640);
     assert_eq!(rt; block.word(0x968), 0x8000_16A0);
     Ok(())
+}
+
+#[test]
+fn laws_do_nothing() {
+    stays_are_made();
+    routines_return();
+    words_walk();
 }
