@@ -12,6 +12,7 @@ pub mod ConfigAnswer
 pub mod ConfigProgress
 pub mod Loading
 pub mod PrintedWords
+pub mod KernelRuns
 pub mod SameAnswer
 pub mod Statuses
 pub mod Answering
