@@ -76,8 +76,8 @@ is_tested() {
 }
 
 cd "$examples" || exit 1
-shopt -s extglob
-programs=(!(stop_*).s) stops=(stop_*.s)
+stops=(stop_*.s)
+mapfile -t programs < <(printf '%s\n' *.s | grep -v '^stop_')
 if ! is_tested programs "${programs[@]%.s}" || ! is_tested stops "${stops[@]%.s}"; then
     echo "examples: examples/as_tests.sh makes other tests than crates/example_runs has"
     failed=1
