@@ -1,3 +1,5 @@
 pub mod Lines
 pub mod Pieces
 pub mod Words
+pub mod Digits
+pub mod OperandPieces
