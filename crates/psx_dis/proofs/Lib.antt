@@ -3,3 +3,5 @@ pub mod Pieces
 pub mod Words
 pub mod Digits
 pub mod OperandPieces
+pub mod Found
+pub mod Fitting
