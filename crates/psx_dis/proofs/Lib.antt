@@ -1,7 +1,9 @@
 pub mod Lines
-pub mod Pieces
+pub mod Spelling
 pub mod Words
 pub mod Digits
-pub mod OperandPieces
+pub mod SpelledLines
 pub mod Found
 pub mod Fitting
+pub mod Registers
+pub mod Shapes
