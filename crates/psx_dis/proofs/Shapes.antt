@@ -7,7 +7,7 @@ use Rattle.psx_ins.specs.Forms.{reg}
 use Rattle.psx_asm.specs.declared.shape.Shape.TheVariants.{Bare, One, Two, Three, Shift, Signed, Unsigned, Upper, Place, Coprocessor, Code, BranchOne, BranchTwo, Jump}
 use Rattle.psx_asm.specs.Piece.{Piece, Name, Number, Mark}
 use Rattle.psx_asm.specs.Numbers.{below, signed_16}
-use Rattle.psx_asm.specs.Operands.{Known, Value, Plain, ◌>>=◌, with, register_of, register, number_below, signed_number, base}
+use Rattle.psx_asm.specs.Operands.{Known, Value, Plain, ◌>>=◌, with, register_of, register, number_below, signed_number, mark, base}
 use Rattle.psx_asm.specs.Instructions.{one, two, three, shift, signed as by_signed, unsigned, upper, place, coprocessor, code, branch_one, branch_two, jump}
 use Rattle.psx_asm.specs.Statement.{Statement, Alone, Branches, Jumps, by_shape}
 use Rattle.psx_dis.specs.Printed.{register_text}
@@ -17,6 +17,10 @@ use Rattle.psx_dis.proofs.Registers.{register_reads, below_reads, signed_reads}
 -- the piece of a register
 abbrev pub named : Reg → Piece
 named r = Name (register_text r)
+
+-- a register in parentheses
+base_reads : (s : Reg) (ps : List Piece) → s.0 < 32 → base (Mark 40 ∷ named s ∷ Mark 41 ∷ ps) ≡ Some (s, ps)
+base_reads s ps small = ap (λ (o : Option Reg). with o (Mark 41 ∷ ps) >>= λ r. mark 41 r.1 >>= λ closed. Some (r.0, closed)) (register_reads s small)
 
 module _ {B : Type 0} where
 
@@ -30,7 +34,7 @@ module _ {B : Type 0} where
   signed_then imm known ps f small = ap (λ (o : Option ℕ). with o ps >>= f) (signed_reads imm small)
 
   base_then : (s : Reg) (ps : List Piece) (f : Reg × List Piece → Option B) → s.0 < 32 → (base (Mark 40 ∷ named s ∷ Mark 41 ∷ ps) >>= f) ≡ f (s, ps)
-  base_then s ps f small = ap (λ (o : Option (Reg × List Piece)). o >>= f) (register_then s (Mark 41 ∷ ps) _ small)
+  base_then s ps f small = ap (λ (o : Option (Reg × List Piece)). o >>= f) (base_reads s ps small)
 
 module _ (known : Known) (w : List ℕ) where
 

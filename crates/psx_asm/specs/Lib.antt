@@ -1,0 +1,11 @@
+pub mod Piece
+pub mod Numbers
+pub mod Operands
+pub mod Instructions
+pub mod Shapes
+pub mod Statement
+pub mod Directives
+pub mod Line
+pub mod Encoding
+pub mod Placing
+pub mod Assembly
