@@ -7,3 +7,6 @@ pub mod Found
 pub mod Fitting
 pub mod Registers
 pub mod Shapes
+pub mod Aims
+pub mod Reading
+pub mod ReadInstructions

@@ -8,7 +8,7 @@ use Rattle.psx_asm.specs.declared.shape.Shape.TheVariants.{Bare, One, Two, Three
 use Rattle.psx_asm.specs.Piece.{Piece, Name, Number, Mark}
 use Rattle.psx_asm.specs.Numbers.{below, signed_16}
 use Rattle.psx_asm.specs.Operands.{Known, Value, Plain, ◌>>=◌, with, register_of, register, number_below, signed_number, mark, base}
-use Rattle.psx_asm.specs.Instructions.{one, two, three, shift, signed as by_signed, unsigned, upper, place, coprocessor, code, branch_one, branch_two, jump}
+use Rattle.psx_asm.specs.Instructions.{bare, one, two, three, shift, signed as by_signed, unsigned, upper, place, coprocessor, code, branch_one, branch_two, jump}
 use Rattle.psx_asm.specs.Statement.{Statement, Alone, Branches, Jumps, by_shape}
 use Rattle.psx_dis.specs.Printed.{register_text}
 use Rattle.psx_dis.proofs.SpelledLines.{signed}
@@ -94,3 +94,7 @@ module _ (known : Known) (w : List ℕ) where
   pub jump_reads : (target : ℤ) → by_shape known w (Number target ∷ []) Jump ≡ option_map (λ ins. Jumps ins (Plain target)) (jump w)
   unfolding by_shape
   jump_reads target = refl
+
+  pub bare_reads : by_shape known w [] Bare ≡ option_map Alone (bare w)
+  unfolding by_shape
+  bare_reads = refl
