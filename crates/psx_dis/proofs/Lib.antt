@@ -10,3 +10,5 @@ pub mod Shapes
 pub mod Aims
 pub mod Reading
 pub mod ReadInstructions
+pub mod Feeds
+pub mod ReadLines
