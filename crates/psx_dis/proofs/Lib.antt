@@ -12,3 +12,5 @@ pub mod Reading
 pub mod ReadInstructions
 pub mod Feeds
 pub mod ReadLines
+pub mod Placing
+pub mod Rounds
