@@ -1,5 +1,5 @@
 -- The numbers of the printed form, read back.
-use Rattle.std.proofs.Common.{◌≡◌, ℕ, ◌+◌, ◌-◌, ◌*◌, ◌/◌, ◌%◌, ◌<◌, ◌≤◌, ◌^◌, ◌&&◌, true, List, [], ◌∷◌, ◌++◌, length, refl, sym, ap, ◌∙◌, decimal, codes, nat_lt, arith}
+use Rattle.std.proofs.Common.{◌≡◌, ℕ, ◌+◌, ◌*◌, ◌/◌, ◌%◌, ◌<◌, ◌≤◌, ◌^◌, true, List, [], ◌∷◌, length, refl, ◌∙◌, decimal, arith}
 use Rattle.std.specs.Char.{digit_value}
 use Rattle.std.specs.List.{list_all}
 use Rattle.std.specs.Str.Parse.{AllDigits, IsNumeral, digits_value}
@@ -44,10 +44,12 @@ joined w q7 q6 q5 q4 q3 q2 q1 r6 r5 r4 r3 r2 r1 r0 e6 e5 e4 e3 e2 e1 e0 = omega 
 pub hex_digits_back : (w : ℕ) → w < 2 ^ 32 → IsNumeral 16 (hex_digits w) × (digits_value 16 (hex_digits w) ≡ w)
 hex_digits_back w small =
     let back = eight_back (w / 2 ^ 28) (w / 2 ^ 24 % 16) (w / 2 ^ 20 % 16) (w / 2 ^ 16 % 16) (w / 2 ^ 12 % 16) (w / 2 ^ 8 % 16) (w / 2 ^ 4 % 16) (w % 16)
-    (omega arith) (omega arith) (omega arith) (omega arith) (omega arith) (omega arith) (omega arith) (omega arith) in
-    ((omega arith, back.0), back.1 ∙ joined w (w / 2 ^ 28) (w / 2 ^ 24) (w / 2 ^ 20) (w / 2 ^ 16) (w / 2 ^ 12) (w / 2 ^ 8) (w / 2 ^ 4)
-    (w / 2 ^ 24 % 16) (w / 2 ^ 20 % 16) (w / 2 ^ 16 % 16) (w / 2 ^ 12 % 16) (w / 2 ^ 8 % 16) (w / 2 ^ 4 % 16) (w % 16)
-    (omega arith) (omega arith) (omega arith) (omega arith) (omega arith) (omega arith) (omega arith))
+    (omega arith) (omega arith) (omega arith) (omega arith) (omega arith) (omega arith) (omega arith) (omega arith) in (
+      (omega arith, back.0),
+      back.1 ∙ joined w (w / 2 ^ 28) (w / 2 ^ 24) (w / 2 ^ 20) (w / 2 ^ 16) (w / 2 ^ 12) (w / 2 ^ 8) (w / 2 ^ 4)
+          (w / 2 ^ 24 % 16) (w / 2 ^ 20 % 16) (w / 2 ^ 16 % 16) (w / 2 ^ 12 % 16) (w / 2 ^ 8 % 16) (w / 2 ^ 4 % 16) (w % 16)
+          (omega arith) (omega arith) (omega arith) (omega arith) (omega arith) (omega arith) (omega arith),
+    )
 
 pub decimal_back : (n : ℕ) → n < 2 ^ 32 → IsNumeral 10 (decimal n) × (digits_value 10 (decimal n) ≡ n)
 decimal_back n small = decimal_is_IsNumeral n (omega arith)

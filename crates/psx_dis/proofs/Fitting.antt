@@ -1,10 +1,9 @@
 -- The operands of an instruction that fits have numbers below the limits of their places.
-use Rattle.std.proofs.Common.{◌≡◌, ℕ, ◌+◌, ◌-◌, ◌*◌, ◌/◌, ◌%◌, ◌^◌, ◌<◌, ◌≤◌, ◌&&◌, true, nat_lt, nat_le, IsTrue, Option, Some, None, arith}
-use Rattle.std.specs.Prelude.{if◌then◌else◌}
-use Rattle.std.proofs.lemmas.Bool.{cond_both, ltb-true, ltb-false, leb-true}
+use Rattle.std.proofs.Common.{◌≡◌, ℕ, ◌+◌, ◌-◌, ◌*◌, ◌^◌, ◌<◌, ◌≤◌, ◌&&◌, true, nat_lt, nat_le, IsTrue, Option, Some, None, arith}
+use Rattle.std.proofs.lemmas.Bool.{cond_both, ltb-true}
 use Rattle.psx_ins.specs.declared.reg.Reg.{Reg}
 use Rattle.psx_ins.specs.declared.ins.Ins.{Ins}
-use Rattle.psx_ins.specs.declared.ins.Ins.TheVariants.{SLL, BLTZ, BGEZ, BLTZAL, BGEZAL, J, JAL, BEQ, BNE, BLEZ, BGTZ}
+use Rattle.psx_ins.specs.declared.ins.Ins.TheVariants.{SLL, BLTZ, BGEZ, BLTZAL, BGEZAL, BEQ, BNE, BLEZ, BGTZ}
 use Rattle.psx_ins.specs.declared.form.Form.{Form}
 use Rattle.psx_ins.specs.declared.form.Form.TheVariants.{Register, Immediate, Jump, Code}
 use Rattle.psx_ins.specs.Forms.{form_fits}

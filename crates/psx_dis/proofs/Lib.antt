@@ -14,3 +14,4 @@ pub mod Feeds
 pub mod ReadLines
 pub mod Placing
 pub mod Rounds
+pub mod OneReading

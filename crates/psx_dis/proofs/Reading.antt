@@ -1,11 +1,9 @@
 -- What a printed line is read as, and the bytes that it places.
-use Rattle.std.proofs.Common.{◌≡◌, ℕ, ◌+◌, ◌*◌, ◌%◌, ◌^◌, ◌<◌, ◌≤◌, pos, ◌==◌, List, [], ◌∷◌, ◌++◌, length, codes, Option, Some, None, Result, Ok, Err, refl, sym, ap, subst, ◌∙◌, append-nil, arith}
+use Rattle.std.proofs.Common.{◌≡◌, ℕ, ◌+◌, ◌*◌, ◌%◌, ◌^◌, ◌<◌, pos, ◌==◌, List, [], ◌∷◌, ◌++◌, length, codes, Option, Some, None, Result, Ok, Err, refl, ap, ◌∙◌, arith}
 use Rattle.std.proofs.lemmas.Bool.{cond-true, eq-eqb}
 use Rattle.psx_ins.specs.declared.ins.Ins.{Ins}
 use Rattle.psx_ins.specs.Words.{word}
-use Rattle.psx_asm.specs.declared.shape.Width.{Width}
 use Rattle.psx_asm.specs.declared.shape.Width.TheVariants.{Word}
-use Rattle.psx_asm.specs.declared.symbol.Symbol.{Symbol}
 use Rattle.psx_asm.specs.declared.fault.AsmFault.{AsmFault}
 use Rattle.psx_asm.specs.declared.fault.AsmFault.TheVariants.{Range}
 use Rattle.psx_asm.specs.Piece.{Piece, Directive, Number}
@@ -14,8 +12,8 @@ use Rattle.psx_asm.specs.Operands.{Known, Plain}
 use Rattle.psx_asm.specs.Instructions.{aimed}
 use Rattle.psx_asm.specs.Statement.{Statement, Alone, Branches, Jumps, Values, Org}
 use Rattle.psx_asm.specs.Directives.{by_directive}
-use Rattle.psx_asm.specs.Line.{Line, ◌>>=◌, with_operands, statement_of, split_label, checked_label, checked_name, line_after, after, named, width_of}
-use Rattle.psx_asm.specs.Encoding.{aligned, bytes_of, code_of, fitting, branch_bits, jump_bits, elements, encoded}
+use Rattle.psx_asm.specs.Line.{Line, ◌>>=◌, statement_of, split_label, checked_label, checked_name, line_after, after, named, width_of}
+use Rattle.psx_asm.specs.Encoding.{aligned, bytes_of, code_of, fitting, branch_bits, jump_bits, encoded}
 
 -- a line without a label
 abbrev pub as_line : Statement → Line

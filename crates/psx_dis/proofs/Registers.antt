@@ -1,5 +1,5 @@
 -- The numbers and registers of the printed form as the assembler reads them.
-use Rattle.std.proofs.Common.{◌≡◌, ℕ, zero, suc, ◌+◌, ◌-◌, ◌<◌, ◌≤◌, ◌^◌, ℤ, pos, negsuc, neg_ℤ, Bool, true, false, ◌==◌, List, [], ◌∷◌, decimal, nat_lt, Option, Some, None, refl, sym, ap, ◌∙◌, ⊎_elim, arith}
+use Rattle.std.proofs.Common.{◌≡◌, ℕ, zero, suc, ◌-◌, ◌<◌, ◌≤◌, ◌^◌, pos, neg_ℤ, Bool, true, false, ◌==◌, ◌∷◌, decimal, nat_lt, Option, Some, None, refl, ap, ◌∙◌, ⊎_elim, arith}
 use Rattle.std.specs.Fmt.{digits}
 use Rattle.std.proofs.lemmas.Bool.{cond-true, cond-false, lt-ltb, le-ltb, cases_lt, eqb-true, false≢true, agree_below_at}
 use Rattle.psx_ins.specs.declared.reg.Reg.{Reg}

@@ -1,10 +1,8 @@
 -- Both rounds over a printed text: it has no fault, and places its words.
-use Rattle.std.proofs.Common.{◌≡◌, ℕ, ◌+◌, ◌*◌, ◌%◌, ◌^◌, ◌<◌, ◌≤◌, nat_lt, List, [], ◌∷◌, ◌++◌, length, All, codes, Option, Some, None, Result, Ok, Err, refl, sym, ap, subst, ◌∙◌, append_assoc, append-nil, arith}
+use Rattle.std.proofs.Common.{◌≡◌, ℕ, ◌+◌, ◌*◌, ◌%◌, ◌^◌, ◌<◌, ◌≤◌, nat_lt, List, [], ◌∷◌, ◌++◌, length, codes, Some, None, Result, Ok, refl, sym, ap, ◌∙◌, append_assoc, arith}
 use Rattle.std.proofs.lemmas.Bool.{cond-false, le-ltb}
-use Rattle.psx_asm.specs.declared.symbol.Symbol.{Symbol}
 use Rattle.psx_asm.specs.declared.fault.AsmFault.{AsmFault}
 use Rattle.psx_asm.specs.declared.fault.AsmError.{AsmError}
-use Rattle.psx_asm.specs.Piece.{Piece}
 use Rattle.psx_asm.specs.Operands.{Known}
 use Rattle.psx_asm.specs.Statement.{Statement, Empty, Alone, Branches, Jumps, Values, Org}
 use Rattle.psx_asm.specs.Line.{Line, ◌>>=◌, after, address_from, first_address, address, known_from, known}

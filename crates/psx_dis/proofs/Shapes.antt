@@ -1,15 +1,12 @@
 -- The operands of each shape as the assembler reads them.
-use Rattle.std.proofs.Common.{◌≡◌, ℕ, ◌<◌, ◌^◌, ℤ, pos, List, [], ◌∷◌, decimal, codes, Option, Some, None, refl, ap, ◌∙◌}
+use Rattle.std.proofs.Common.{◌≡◌, ℕ, ◌<◌, ◌^◌, ℤ, pos, List, [], ◌∷◌, Option, Some, refl, ap, ◌∙◌}
 use Rattle.std.specs.Prelude.{option_map}
 use Rattle.psx_ins.specs.declared.reg.Reg.{Reg}
-use Rattle.psx_ins.specs.declared.ins.Ins.{Ins}
-use Rattle.psx_ins.specs.Forms.{reg}
 use Rattle.psx_asm.specs.declared.shape.Shape.TheVariants.{Bare, One, Two, Three, Shift, Signed, Unsigned, Upper, Place, Coprocessor, Code, BranchOne, BranchTwo, Jump}
 use Rattle.psx_asm.specs.Piece.{Piece, Name, Number, Mark}
-use Rattle.psx_asm.specs.Numbers.{below, signed_16}
-use Rattle.psx_asm.specs.Operands.{Known, Value, Plain, ◌>>=◌, with, register_of, register, number_below, signed_number, mark, base}
+use Rattle.psx_asm.specs.Operands.{Known, Plain, ◌>>=◌, with, register, number_below, signed_number, mark, base}
 use Rattle.psx_asm.specs.Instructions.{bare, one, two, three, shift, signed as by_signed, unsigned, upper, place, coprocessor, code, branch_one, branch_two, jump}
-use Rattle.psx_asm.specs.Statement.{Statement, Alone, Branches, Jumps, by_shape}
+use Rattle.psx_asm.specs.Statement.{Alone, Branches, Jumps, by_shape}
 use Rattle.psx_dis.specs.Printed.{register_text}
 use Rattle.psx_dis.proofs.SpelledLines.{signed}
 use Rattle.psx_dis.proofs.Registers.{register_reads, below_reads, signed_reads}
@@ -23,7 +20,6 @@ base_reads : (s : Reg) (ps : List Piece) → s.0 < 32 → base (Mark 40 ∷ name
 base_reads s ps small = ap (λ (o : Option Reg). with o (Mark 41 ∷ ps) >>= λ r. mark 41 r.1 >>= λ closed. Some (r.0, closed)) (register_reads s small)
 
 module _ {B : Type 0} where
-
   register_then : (a : Reg) (ps : List Piece) (f : Reg × List Piece → Option B) → a.0 < 32 → (register (named a ∷ ps) >>= f) ≡ f (a, ps)
   register_then a ps f small = ap (λ (o : Option Reg). with o ps >>= f) (register_reads a small)
 
@@ -37,7 +33,6 @@ module _ {B : Type 0} where
   base_then s ps f small = ap (λ (o : Option (Reg × List Piece)). o >>= f) (base_reads s ps small)
 
 module _ (known : Known) (w : List ℕ) where
-
   pub one_reads : (a : Reg) → a.0 < 32 → by_shape known w (named a ∷ []) One ≡ option_map Alone (one w a)
   unfolding by_shape
   one_reads a la = register_then a [] _ la

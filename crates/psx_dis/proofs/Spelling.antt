@@ -1,5 +1,5 @@
 -- A line put together of words and of what parts them, and the pieces that it is read as.
-use Rattle.std.proofs.Common.{◌≡◌, ℕ, zero, suc, ◌+◌, ◌-◌, ◌<◌, ◌≤◌, Bool, true, List, [], ◌∷◌, ◌++◌, length, take, drop, slice_index, Some, refl, sym, ap, subst, ◌∙◌, append_assoc, length-append, arith}
+use Rattle.std.proofs.Common.{◌≡◌, ℕ, zero, suc, ◌+◌, ◌-◌, ◌<◌, Bool, true, List, [], ◌∷◌, ◌++◌, length, take, drop, slice_index, Some, refl, sym, ap, subst, ◌∙◌, append_assoc, length-append, arith}
 use Rattle.std.specs.List.{list_all}
 use Rattle.std.proofs.lemmas.Bool.{and_parts}
 use Rattle.std.proofs.lemmas.List.{get_or_append_left, get_or-append_right, drop_at, take_at}
@@ -66,7 +66,7 @@ spelled_tokens front (p ∷ ps) are =
       omega arith,
       subst (λ (t : List ℕ). BeginsToken t p.kind ((from + length p.word) - from)) (sym here) (subst (BeginsToken (p.word ++ rest) p.kind) size are.1),
       subst (λ (l : List ℕ). HasTokens l (from + length p.word) (tokens_from (from + length p.word) ps) (length l)) whole
-      (subst (λ (n : ℕ). HasTokens (more ++ rest) n (tokens_from n ps) (length (more ++ rest))) end (spelled_tokens more ps are.2)),
+          (subst (λ (n : ℕ). HasTokens (more ++ rest) n (tokens_from n ps) (length (more ++ rest))) end (spelled_tokens more ps are.2)),
     )
 
 -- what each is read as

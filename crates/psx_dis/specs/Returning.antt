@@ -1,5 +1,6 @@
 -- What the printed form of words assembles to.
-use Rattle.std.specs.Prelude.{◌≡◌, ℕ, ◌+◌, ◌*◌, ◌/◌, ◌%◌, ◌^◌, ◌<◌, ◌≤◌, List, [], ◌∷◌, length, None, Ok}
+use Rattle.std.specs.Prelude.{◌≡◌, ℕ, ◌+◌, ◌*◌, ◌/◌, ◌%◌, ◌^◌, ◌<◌, ◌≤◌, List, [], ◌∷◌, length, ◌↔◌, None, Result, Ok}
+use Rattle.psx_asm.specs.declared.fault.AsmError.{AsmError}
 use Rattle.psx_asm.specs.Assembly.{Placed, IsAssemblyOf}
 use Rattle.psx_dis.specs.Printed.{printed}
 
@@ -16,6 +17,7 @@ words_alone start words = record { bytes = word_bytes start words; start = None 
 abbrev pub IsHeld : (from to at count : ℕ) → Type 0
 IsHeld from to at count = (k : ℕ) → k < count → (from ≤ at + k) × (at + k ≤ to)
 
--- in each window that has the words' addresses, the printed form of the words places them and nothing else, and has no fault
+-- in each window that has the words' addresses, what the printed form of the words gives is these words and nothing else, without a fault
 abbrev pub AssemblesBack : ℕ → List ℕ → Type 0
-AssemblesBack start words = (from to : ℕ) → IsHeld from to start (4 * length words) → IsAssemblyOf (printed start words) from to (Ok (words_alone start words))
+AssemblesBack start words = (from to : ℕ) → IsHeld from to start (4 * length words)
+    → (answer : Result Placed AsmError) → IsAssemblyOf (printed start words) from to answer ↔ (answer ≡ Ok (words_alone start words))
