@@ -12,7 +12,7 @@ use Rattle.psx_asm.specs.declared.fault.AsmFault.{AsmFault}
 use Rattle.psx_asm.specs.declared.fault.AsmFault.TheVariants.{NoLabel, Range}
 use Rattle.psx_asm.specs.Numbers.{low_word, either_sign}
 use Rattle.psx_asm.specs.Operands.{Known, Value, Plain, Sum}
-use Rattle.psx_asm.specs.Instructions.{aimed}
+use Rattle.psx_asm.specs.Instructions.{branch_to, jump_to}
 use Rattle.psx_asm.specs.Statement.{Statement, Empty, Alone, Pair, Branches, Jumps, Address, Values, Text, Space, Align, Org, Equ}
 use Rattle.psx_asm.specs.Line.{◌>>=◌, width_of, padding}
 
@@ -96,12 +96,12 @@ encoded known at (Branches ins v) = do
   n ← resolved known v
   aligned 4 at (do
     bits ← fitting (low_word n) (branch_bits (at + 4) (low_word n))
-    Ok (code_of (aimed ins bits)))
+    Ok (code_of (branch_to ins bits)))
 encoded known at (Jumps ins v) = do
   n ← resolved known v
   aligned 4 at (do
     bits ← fitting (low_word n) (jump_bits (at + 4) (low_word n))
-    Ok (code_of (aimed ins bits)))
+    Ok (code_of (jump_to ins bits)))
 encoded known at (Address t v) = do
   n ← resolved known v
   aligned 4 at (Ok (address_code t (low_word n)))

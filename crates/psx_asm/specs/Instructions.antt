@@ -145,16 +145,20 @@ jump w =
     if bytes_eq w (codes "jal") then Some (JAL 0) else
     None
 
--- a branch or a jump with other bits: where it goes
-abbrev pub aimed : Ins → ℕ → Ins
-aimed (BEQ s t imm) n = BEQ s t n
-aimed (BNE s t imm) n = BNE s t n
-aimed (BLEZ s imm) n = BLEZ s n
-aimed (BGTZ s imm) n = BGTZ s n
-aimed (BLTZ s imm) n = BLTZ s n
-aimed (BGEZ s imm) n = BGEZ s n
-aimed (BLTZAL s imm) n = BLTZAL s n
-aimed (BGEZAL s imm) n = BGEZAL s n
-aimed (J target) n = J n
-aimed (JAL target) n = JAL n
-aimed ins n = ins
+-- a branch with other bits: how far it goes
+abbrev pub branch_to : Ins → ℕ → Ins
+branch_to (BEQ s t imm) n = BEQ s t n
+branch_to (BNE s t imm) n = BNE s t n
+branch_to (BLEZ s imm) n = BLEZ s n
+branch_to (BGTZ s imm) n = BGTZ s n
+branch_to (BLTZ s imm) n = BLTZ s n
+branch_to (BGEZ s imm) n = BGEZ s n
+branch_to (BLTZAL s imm) n = BLTZAL s n
+branch_to (BGEZAL s imm) n = BGEZAL s n
+branch_to ins n = ins
+
+-- a jump with other bits: where it goes
+abbrev pub jump_to : Ins → ℕ → Ins
+jump_to (J target) n = J n
+jump_to (JAL target) n = JAL n
+jump_to ins n = ins

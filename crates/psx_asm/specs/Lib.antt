@@ -9,3 +9,5 @@ pub mod Line
 pub mod Encoding
 pub mod Placing
 pub mod Assembly
+pub mod Shown
+pub mod Names

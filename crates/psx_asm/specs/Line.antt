@@ -64,7 +64,7 @@ read_line known None = Err BadToken
 
 -- whether a line's label is this name
 abbrev pub is_label : Option (List ℕ) → List ℕ → Bool
-is_label (Some label) w = bytes_eq w label
+is_label (Some label) w = bytes_eq label w
 is_label None w = false
 
 -- a line with a label that the text gave before
@@ -129,7 +129,7 @@ address before = address_from first_address before
 
 -- the name that a statement gives
 abbrev pub named : Statement → List ℕ → Option Symbol
-named (Equ name n) w = if bytes_eq w name then Some (symbols.Number n) else None
+named (Equ name n) w = if bytes_eq name w then Some (symbols.Number n) else None
 named _ w = None
 
 -- what a line at an address says of a name

@@ -4,10 +4,17 @@
 #![tactic(auto)]
 
 mod fault;
+mod instruction;
+mod number;
 mod object;
+mod operand;
+mod piece;
 mod shape;
+mod shapes;
 mod statement;
 mod symbol;
+mod symbols;
+mod table;
 
 pub use fault::{AsmError, AsmFault};
 pub use object::{Bytes, Name, Object, Part, Parts};
