@@ -9,7 +9,7 @@ use Rattle.psx_asm.specs.declared.fault.AsmFault.TheVariants.{Range}
 use Rattle.psx_asm.specs.Piece.{Piece, Directive, Number}
 use Rattle.psx_asm.specs.Numbers.{low_word}
 use Rattle.psx_asm.specs.Operands.{Known, Plain}
-use Rattle.psx_asm.specs.Instructions.{aimed}
+use Rattle.psx_asm.specs.Instructions.{branch_to, jump_to}
 use Rattle.psx_asm.specs.Statement.{Statement, Alone, Branches, Jumps, Values, Org}
 use Rattle.psx_asm.specs.Directives.{by_directive}
 use Rattle.psx_asm.specs.Line.{Line, ◌>>=◌, statement_of, split_label, checked_label, checked_name, line_after, after, named, width_of}
@@ -78,19 +78,19 @@ alone_encodes : (known : Known) (at : ℕ) (ins : Ins) → at % 4 ≡ 0 → enco
 unfolding encoded
 alone_encodes known at ins multiple = aligned_here at (Ok (code_of ins)) multiple
 
-fits_bits : (at : ℕ) (ins : Ins) (o : Option ℕ) (bits : ℕ) → at % 4 ≡ 0 → (number : ℕ) → o ≡ Some bits → aligned 4 at (fitting number o >>= λ b. Ok (code_of (aimed ins b))) ≡ Ok (code_of (aimed ins bits))
-fits_bits at ins o bits multiple number e =
-    aligned_here at (fitting number o >>= λ b. Ok (code_of (aimed ins b))) multiple ∙ ap (λ (o : Option ℕ). fitting number o >>= λ b. Ok (code_of (aimed ins b))) e
+fits_bits : (at : ℕ) (code : ℕ → List ℕ) (o : Option ℕ) (bits : ℕ) → at % 4 ≡ 0 → (number : ℕ) → o ≡ Some bits → aligned 4 at (fitting number o >>= λ b. Ok (code b)) ≡ Ok (code bits)
+fits_bits at code o bits multiple number e =
+    aligned_here at (fitting number o >>= λ b. Ok (code b)) multiple ∙ ap (λ (o : Option ℕ). fitting number o >>= λ b. Ok (code b)) e
 
 branch_encodes : (known : Known) (at : ℕ) (ins : Ins) (target bits : ℕ) → at % 4 ≡ 0 → branch_bits (at + 4) (low_word (pos target)) ≡ Some bits
-    → encoded known at (Branches ins (Plain (pos target))) ≡ Ok (code_of (aimed ins bits))
+    → encoded known at (Branches ins (Plain (pos target))) ≡ Ok (code_of (branch_to ins bits))
 unfolding encoded
-branch_encodes known at ins target bits multiple e = fits_bits at ins (branch_bits (at + 4) (low_word (pos target))) bits multiple (low_word (pos target)) e
+branch_encodes known at ins target bits multiple e = fits_bits at (λ b. code_of (branch_to ins b)) (branch_bits (at + 4) (low_word (pos target))) bits multiple (low_word (pos target)) e
 
 jump_encodes : (known : Known) (at : ℕ) (ins : Ins) (target bits : ℕ) → at % 4 ≡ 0 → jump_bits (at + 4) (low_word (pos target)) ≡ Some bits
-    → encoded known at (Jumps ins (Plain (pos target))) ≡ Ok (code_of (aimed ins bits))
+    → encoded known at (Jumps ins (Plain (pos target))) ≡ Ok (code_of (jump_to ins bits))
 unfolding encoded
-jump_encodes known at ins target bits multiple e = fits_bits at ins (jump_bits (at + 4) (low_word (pos target))) bits multiple (low_word (pos target)) e
+jump_encodes known at ins target bits multiple e = fits_bits at (λ b. code_of (jump_to ins b)) (jump_bits (at + 4) (low_word (pos target))) bits multiple (low_word (pos target)) e
 
 -- an instruction
 pub alone : (at : ℕ) (ins : Ins) (ps : List Piece) → at % 4 ≡ 0 → (split_label ps).0 ≡ None → ((known : Known) → statement_of known (split_label ps).1 ≡ Ok (Alone ins)) → Reads at (word ins) ps
@@ -98,14 +98,14 @@ alone at ins ps multiple none reads = reads_word at (word ins) ps (Alone ins) tt
 
 -- a branch or a jump, by its target
 pub branches : (at : ℕ) (ins : Ins) (target bits : ℕ) (ps : List Piece) → at % 4 ≡ 0 → branch_bits (at + 4) (low_word (pos target)) ≡ Some bits → (split_label ps).0 ≡ None
-    → ((known : Known) → statement_of known (split_label ps).1 ≡ Ok (Branches ins (Plain (pos target)))) → Reads at (word (aimed ins bits)) ps
+    → ((known : Known) → statement_of known (split_label ps).1 ≡ Ok (Branches ins (Plain (pos target)))) → Reads at (word (branch_to ins bits)) ps
 branches at ins target bits ps multiple e none reads =
-    reads_word at (word (aimed ins bits)) ps (Branches ins (Plain (pos target))) tt none reads (λ known. branch_encodes known at ins target bits multiple e)
+    reads_word at (word (branch_to ins bits)) ps (Branches ins (Plain (pos target))) tt none reads (λ known. branch_encodes known at ins target bits multiple e)
 
 pub jumps : (at : ℕ) (ins : Ins) (target bits : ℕ) (ps : List Piece) → at % 4 ≡ 0 → jump_bits (at + 4) (low_word (pos target)) ≡ Some bits → (split_label ps).0 ≡ None
-    → ((known : Known) → statement_of known (split_label ps).1 ≡ Ok (Jumps ins (Plain (pos target)))) → Reads at (word (aimed ins bits)) ps
+    → ((known : Known) → statement_of known (split_label ps).1 ≡ Ok (Jumps ins (Plain (pos target)))) → Reads at (word (jump_to ins bits)) ps
 jumps at ins target bits ps multiple e none reads =
-    reads_word at (word (aimed ins bits)) ps (Jumps ins (Plain (pos target))) tt none reads (λ known. jump_encodes known at ins target bits multiple e)
+    reads_word at (word (jump_to ins bits)) ps (Jumps ins (Plain (pos target))) tt none reads (λ known. jump_encodes known at ins target bits multiple e)
 
 word_statement : (known : Known) (w : ℕ) → statement_of known (Directive (codes ".word") ∷ Number (pos w) ∷ []) ≡ Ok (Values Word (Plain (pos w) ∷ []))
 unfolding by_directive
