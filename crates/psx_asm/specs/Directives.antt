@@ -52,25 +52,49 @@ abbrev pub some_values : Width → List Piece → Option Statement
 some_values width [] = None
 some_values width (p ∷ ps) = option_map (Values width) (values (p ∷ ps))
 
--- the statement of a directive's operands, where they are of its kinds and in its ranges
-unfoldable pub by_directive : Known → List Piece → Directive → Option Statement
-by_directive known ps (does.Values width) = some_values width ps
-by_directive known ps does.Ascii = do
+-- a text
+unfoldable pub of_text : List Piece → Option Statement
+of_text ps = do
   t ← text ps
   ends t.1 (Some (Text t.0))
-by_directive known ps does.AsciiZero = do
+
+-- a text, and a byte 0 behind it
+unfoldable pub of_text_zero : List Piece → Option Statement
+of_text_zero ps = do
   t ← text ps
   ends t.1 (Some (Text (t.0 ++ 0 ∷ [])))
-by_directive known ps does.Space = do
+
+-- so many zeros
+unfoldable pub of_space : Known → List Piece → Option Statement
+of_space known ps = do
   n ← number_below (2 ^ 32) known ps
   ends n.1 (Some (Space n.0))
-by_directive known ps does.Align = do
+
+-- a power of two, 2 ^ 12 at most
+unfoldable pub of_align : Known → List Piece → Option Statement
+of_align known ps = do
   n ← number_below 13 known ps
-  ends n.1 (Some (Align n.0))
-by_directive known ps does.Org = do
+  ends n.1 (Some (Align (2 ^ n.0 - 1)))
+
+-- an address, modulo 2 ^ 32
+unfoldable pub of_org : Known → List Piece → Option Statement
+of_org known ps = do
   n ← number known ps
   ends n.1 (Some (Org (low_word n.0)))
-by_directive known ps does.Equ = do
+
+-- a name and a number
+unfoldable pub of_equ : Known → List Piece → Option Statement
+of_equ known ps = do
   w ← name ps
   n ← number known w.1
   ends n.1 (Some (Equ w.0 n.0))
+
+-- the statement of a directive's operands, where they are of its kinds and in its ranges
+abbrev pub by_directive : Known → List Piece → Directive → Option Statement
+by_directive known ps (does.Values width) = some_values width ps
+by_directive known ps does.Ascii = of_text ps
+by_directive known ps does.AsciiZero = of_text_zero ps
+by_directive known ps does.Space = of_space known ps
+by_directive known ps does.Align = of_align known ps
+by_directive known ps does.Org = of_org known ps
+by_directive known ps does.Equ = of_equ known ps

@@ -110,6 +110,6 @@ encoded known at (Values width vs) = do
   aligned (width_of width) at (elements width ns)
 encoded known at (Text bytes) = Ok bytes
 encoded known at (Space n) = Ok (replicate n 0)
-encoded known at (Align bits) = Ok (replicate (padding bits at) 0)
+encoded known at (Align last) = Ok (replicate (padding last at) 0)
 encoded known at (Org n) = Ok []
 encoded known at (Equ w n) = Ok []

@@ -90,9 +90,9 @@ width_of Byte = 1
 width_of Half = 2
 width_of Word = 4
 
--- the zeros up to a multiple of a power of two
+-- the zeros up to a multiple of one more than a number
 abbrev pub padding : ℕ → ℕ → ℕ
-padding bits at = (2 ^ bits - at % 2 ^ bits) % 2 ^ bits
+padding last at = (last + 1 - at % (last + 1)) % (last + 1)
 
 -- how many bytes a statement places at an address
 abbrev pub size : ℕ → Statement → ℕ
@@ -105,7 +105,7 @@ size at (Address t v) = 8
 size at (Values width vs) = width_of width * length vs
 size at (Text bytes) = length bytes
 size at (Space n) = n
-size at (Align bits) = padding bits at
+size at (Align last) = padding last at
 size at (Org n) = 0
 size at (Equ w n) = 0
 

@@ -34,14 +34,14 @@ shown_values vs = map shown_value vs
 -- a statement
 abbrev pub shown_statement : code.Statement → Statement
 shown_statement statements.Empty = Empty
-shown_statement (statements.Alone ins) = Alone ins
-shown_statement (statements.Pair first second) = Pair first second
-shown_statement (statements.Branch ins v) = Branches ins (shown_value v)
-shown_statement (statements.Jump ins v) = Jumps ins (shown_value v)
-shown_statement (statements.Address t v) = Address t (shown_value v)
+shown_statement (statements.Alone c) = Alone c.ins
+shown_statement (statements.Pair first second) = Pair first.ins second.ins
+shown_statement (statements.Branch c v) = Branches c.ins (shown_value v)
+shown_statement (statements.Jump c v) = Jumps c.ins (shown_value v)
+shown_statement (statements.Address t v) = Address t.reg (shown_value v)
 shown_statement (statements.Values width vs) = Values width (shown_values vs.items)
 shown_statement (statements.Text bytes) = Text bytes.items
 shown_statement (statements.Space n) = Space n
-shown_statement (statements.Align bits) = Align bits
+shown_statement (statements.Align last) = Align last
 shown_statement (statements.Org at) = Org at
 shown_statement (statements.Equ name n) = Equ name.now n

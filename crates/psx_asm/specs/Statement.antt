@@ -32,8 +32,8 @@ pub data Statement : Type 0 where
   Text : (bytes : List ℕ) → Statement
   -- so many zeros
   Space : (count : ℕ) → Statement
-  -- zeros up to a multiple of a power of two
-  Align : (bits : ℕ) → Statement
+  -- zeros up to a multiple of a number, which is one more than this
+  Align : (last : ℕ) → Statement
   -- the next address
   Org : (at : ℕ) → Statement
   -- a name for a number

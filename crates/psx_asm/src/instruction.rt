@@ -1,5 +1,6 @@
 //! Statements that begin with a mnemonic.
-ghost use Rattle.std.specs.Prelude.{◌≡◌, option_map};
+ghost use Rattle.std.specs.Prelude.{◌≡◌, ◌<◌, ◌^◌, option_map, IsTrue, IfSome};
+ghost use Rattle.psx_ins.specs.Words.{fits_fields};
 ghost use Rattle.psx_asm.specs.Names.{names};
 ghost use Rattle.psx_asm.specs.Operands.{ends};
 ghost use Rattle.psx_asm.specs.Statement.{Alone, Branches, Jumps, by_shape, load_halves, load, code_number, of_bare, of_one, of_two, of_three, of_shift, of_signed, of_unsigned, of_upper, of_place, of_coprocessor, of_code, of_branch_always, of_branch_one, of_branch_two, of_jump, of_load, of_address};
@@ -9,7 +10,7 @@ use crate::number::{below, low_word, signed_16};
 use crate::operand::{base, number, number_below, register, signed_number, value};
 use crate::piece::Piece;
 use crate::shape::Shape;
-use crate::statement::{Statement, Value};
+use crate::statement::{Code, General, Statement, Value};
 use crate::symbols::Symbols;
 use crate::table::{
     R0, bare, branch_always, branch_one, branch_two, code, coprocessor, jump, one, place, shift,
@@ -20,43 +21,48 @@ use psx_ins::reg::Reg;
 
 // The statement of an instruction, where no pieces are left.
 fn alone<'a>(rest: &[Piece<'a>], ins: Option<Ins>) -> Option<Statement<'a>>
+    requires { IfSome ins (λ i. IsTrue (fits_fields i)) }
     ensures { option_map shown_statement result ≡ ends (shown rest.now) (option_map Alone ins) }
 {
     match (rest, ins) {
-        ([], Some(ins)) => Some(Statement::Alone(ins)),
+        ([], Some(ins)) => Some(Statement::Alone(Code { ins })),
         _ => None,
     }
 }
 
 // A register gets 32 bits.
 fn load_halves<'a>(t: Reg, word: u32) -> Statement<'a>
+    requires { t.0 < 32 }
     ensures { shown_statement result ≡ load_halves t word }
 {
     let upper = (word / 65_536) as u16;
     let lower = (word % 65_536) as u16;
     let first = Ins::LUI { t, imm: upper };
     if lower == 0 {
-        return Statement::Alone(first);
+        return Statement::Alone(Code { ins: first });
     }
     let second = Ins::ORI {
         s: t,
         t,
         imm: lower,
     };
-    Statement::Pair(first, second)
+    Statement::Pair(Code { ins: first }, Code { ins: second })
 }
 
 // A register gets a number.
 fn load<'a>(t: Reg, number: i64) -> Statement<'a>
+    requires { t.0 < 32 }
     ensures { shown_statement result ≡ load t number }
 {
     if let Some(imm) = signed_16(number) {
-        return Statement::Alone(Ins::ADDIU { s: R0, t, imm });
+        let ins = Ins::ADDIU { s: R0, t, imm };
+        return Statement::Alone(Code { ins });
     }
     match below(65_536, number) {
         Some(imm) => {
             let imm = imm as u16;
-            Statement::Alone(Ins::ORI { s: R0, t, imm })
+            let ins = Ins::ORI { s: R0, t, imm };
+            Statement::Alone(Code { ins })
         }
         None => load_halves(t, low_word(number)),
     }
@@ -173,7 +179,8 @@ fn code_number<'p, 'a>(
     known: &Symbols<'_>,
     pieces: &'p [Piece<'a>],
 ) -> Option<(u32, &'p [Piece<'a>])>
-    ensures { option_map (λ x. (x.0, shown x.1.now)) result ≡ code_number (names known.now) (shown pieces.now) }
+    ensures value { option_map (λ x. (x.0, shown x.1.now)) result ≡ code_number (names known.now) (shown pieces.now) }
+    ensures small { IfSome result (λ x. x.0 < 2 ^ 20) }
 {
     match pieces {
         [] => Some((0, pieces)),
@@ -192,10 +199,11 @@ fn of_code<'a>(known: &Symbols<'_>, word: &[u8], pieces: &[Piece<'a>]) -> Option
 
 // The statement of a branch, where no pieces are left.
 fn branching<'a>(rest: &[Piece<'a>], ins: Option<Ins>, target: Value<'a>) -> Option<Statement<'a>>
+    requires { IfSome ins (λ i. IsTrue (fits_fields i)) }
     ensures { option_map shown_statement result ≡ ends (shown rest.now) (option_map (λ i. Branches i (shown_value target.entry)) ins) }
 {
     match (rest, ins) {
-        ([], Some(ins)) => Some(Statement::Branch(ins, target)),
+        ([], Some(ins)) => Some(Statement::Branch(Code { ins }, target)),
         _ => None,
     }
 }
@@ -232,10 +240,11 @@ fn of_branch_two<'a>(word: &[u8], pieces: &[Piece<'a>]) -> Option<Statement<'a>>
 
 // The statement of a jump, where no pieces are left.
 fn jumping<'a>(rest: &[Piece<'a>], ins: Option<Ins>, target: Value<'a>) -> Option<Statement<'a>>
+    requires { IfSome ins (λ i. IsTrue (fits_fields i)) }
     ensures { option_map shown_statement result ≡ ends (shown rest.now) (option_map (λ i. Jumps i (shown_value target.entry)) ins) }
 {
     match (rest, ins) {
-        ([], Some(ins)) => Some(Statement::Jump(ins, target)),
+        ([], Some(ins)) => Some(Statement::Jump(Code { ins }, target)),
         _ => None,
     }
 }
@@ -270,7 +279,7 @@ fn of_address<'a>(pieces: &[Piece<'a>]) -> Option<Statement<'a>>
     let (a, rest) = register(pieces)?;
     let (found, rest) = value(rest)?;
     match rest {
-        [] => Some(Statement::Address(a, found)),
+        [] => Some(Statement::Address(General { reg: a }, found)),
         _ => None,
     }
 }

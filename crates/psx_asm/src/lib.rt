@@ -3,6 +3,7 @@
 //! The top call's command `asm` is to make a program of its objects, and the printer's law to speak of its definition.
 #![tactic(auto)]
 
+mod directive;
 mod fault;
 mod instruction;
 mod number;

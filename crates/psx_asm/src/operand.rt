@@ -1,5 +1,5 @@
 //! Operands, read from a line's pieces from left to right: an operand, and the pieces behind it.
-ghost use Rattle.std.specs.Prelude.{◌≡◌, ◌≤◌, ◌<◌, ◌&&◌, ◌-◌, ◌*◌, ◌+◌, ◌^◌, nat_le, slice_index, option_map, IfSome};
+ghost use Rattle.std.specs.Prelude.{◌≡◌, ◌≤◌, ◌<◌, ◌&&◌, ◌-◌, ◌*◌, ◌+◌, ◌^◌, nat_le, slice_index, option_map, IfSome, length, drop};
 ghost use Rattle.psx_asm.specs.Operands.{is_digit, register_of, register, mark, base, number_of, number, number_below, signed_number, plus, value};
 ghost use Rattle.psx_asm.specs.Names.{names};
 ghost use Rattle.psx_asm.specs.Shown.{shown, shown_value};
@@ -27,7 +27,8 @@ fn is_digit(byte: u8) -> bool
 
 // The register of a name.
 fn register_of(word: &[u8]) -> Option<Reg>
-    ensures { result ≡ register_of word.now }
+    ensures value { result ≡ register_of word.now }
+    ensures small { IfSome result (λ r. r.0 < 32) }
 {
     let first = byte_at(word, 1);
     let second = byte_at(word, 2);
@@ -55,7 +56,8 @@ fn register_of(word: &[u8]) -> Option<Reg>
 
 /// A register.
 pub(crate) fn register<'p, 'a>(pieces: &'p [Piece<'a>]) -> Option<(Reg, &'p [Piece<'a>])>
-    ensures { option_map (λ x. (x.0, shown x.1.now)) result ≡ register (shown pieces.now) }
+    ensures value { option_map (λ x. (x.0, shown x.1.now)) result ≡ register (shown pieces.now) }
+    ensures small { IfSome result (λ x. x.0.0 < 32) }
 {
     match pieces {
         [Piece::Name(word), rest @ ..] => match register_of(word) {
@@ -78,7 +80,8 @@ fn mark<'p, 'a>(byte: u8, pieces: &'p [Piece<'a>]) -> Option<&'p [Piece<'a>]>
 
 /// A register in parentheses.
 pub(crate) fn base<'p, 'a>(pieces: &'p [Piece<'a>]) -> Option<(Reg, &'p [Piece<'a>])>
-    ensures { option_map (λ x. (x.0, shown x.1.now)) result ≡ base (shown pieces.now) }
+    ensures value { option_map (λ x. (x.0, shown x.1.now)) result ≡ base (shown pieces.now) }
+    ensures small { IfSome result (λ x. x.0.0 < 32) }
 {
     let opened = mark(b'(', pieces)?;
     let (found, rest) = register(opened)?;
@@ -146,7 +149,9 @@ pub(crate) fn signed_number<'p, 'a>(
 
 // A plus sign and a number.
 fn plus<'p, 'a>(pieces: &'p [Piece<'a>]) -> Option<(i64, &'p [Piece<'a>])>
-    ensures { option_map (λ x. (x.0, shown x.1.now)) result ≡ plus (shown pieces.now) }
+    ensures value { option_map (λ x. (x.0, shown x.1.now)) result ≡ plus (shown pieces.now) }
+    ensures shorter { IfSome result (λ x. length x.1.now < length pieces.now) }
+    ensures behind { IfSome result (λ x. x.1.now ≡ drop (length pieces.now - length x.1.now) pieces.now) }
 {
     match pieces {
         [Piece::Mark(byte), Piece::Number(found), rest @ ..] => {
@@ -162,7 +167,9 @@ fn plus<'p, 'a>(pieces: &'p [Piece<'a>]) -> Option<(i64, &'p [Piece<'a>])>
 
 /// A number, a name, or a name and a number.
 pub(crate) fn value<'p, 'a>(pieces: &'p [Piece<'a>]) -> Option<(Value<'a>, &'p [Piece<'a>])>
-    ensures { option_map (λ x. (shown_value x.0, shown x.1.now)) result ≡ value (shown pieces.now) }
+    ensures value { option_map (λ x. (shown_value x.0, shown x.1.now)) result ≡ value (shown pieces.now) }
+    ensures shorter { IfSome result (λ x. length x.1.now < length pieces.now) }
+    ensures behind { IfSome result (λ x. x.1.now ≡ drop (length pieces.now - length x.1.now) pieces.now) }
 {
     match pieces {
         [Piece::Number(found), rest @ ..] => Some((Value::Number(*found), rest)),

@@ -1,5 +1,6 @@
 //! The instructions by their mnemonics, a table for each list of operands (R3000A manual, instruction set).
-ghost use Rattle.std.specs.Prelude.{◌≡◌, bytes_eq};
+ghost use Rattle.std.specs.Prelude.{◌≡◌, ◌<◌, ◌^◌, bytes_eq, IsTrue, IfSome};
+ghost use Rattle.psx_ins.specs.Words.{fits_fields};
 ghost use Rattle.psx_asm.specs.Instructions.{bare, one, two, three, shift, signed, unsigned, upper, place, coprocessor, code, branch_always, branch_one, branch_two, jump, branch_to, jump_to};
 
 use psx_ins::ins::Ins;
@@ -17,7 +18,8 @@ pub(crate) fn is(word: &[u8], text: &str) -> bool
 
 /// The instruction of nothing.
 pub(crate) fn bare(word: &[u8]) -> Option<Ins>
-    ensures { result ≡ bare word.now }
+    ensures value { result ≡ bare word.now }
+    ensures fits { IfSome result (λ i. IsTrue (fits_fields i)) }
 {
     match word {
         b"nop" => Some(Ins::SLL { t: R0, d: R0, n: 0 }),
@@ -28,7 +30,9 @@ pub(crate) fn bare(word: &[u8]) -> Option<Ins>
 
 /// The instruction of a register.
 pub(crate) fn one(word: &[u8], a: Reg) -> Option<Ins>
-    ensures { result ≡ one word.now a }
+    requires { a.0 < 32 }
+    ensures value { result ≡ one word.now a }
+    ensures fits { IfSome result (λ i. IsTrue (fits_fields i)) }
 {
     match word {
         b"jr" => Some(Ins::JR { s: a }),
@@ -42,7 +46,9 @@ pub(crate) fn one(word: &[u8], a: Reg) -> Option<Ins>
 
 /// The instruction of two registers.
 pub(crate) fn two(word: &[u8], a: Reg, b: Reg) -> Option<Ins>
-    ensures { result ≡ two word.now a b }
+    requires { (a.0 < 32) × (b.0 < 32) }
+    ensures value { result ≡ two word.now a b }
+    ensures fits { IfSome result (λ i. IsTrue (fits_fields i)) }
 {
     match word {
         b"move" => Some(Ins::ADDU { s: b, t: R0, d: a }),
@@ -57,7 +63,9 @@ pub(crate) fn two(word: &[u8], a: Reg, b: Reg) -> Option<Ins>
 
 /// The instruction of three registers.
 pub(crate) fn three(word: &[u8], a: Reg, b: Reg, c: Reg) -> Option<Ins>
-    ensures { result ≡ three word.now a b c }
+    requires { (a.0 < 32) × (b.0 < 32) × (c.0 < 32) }
+    ensures value { result ≡ three word.now a b c }
+    ensures fits { IfSome result (λ i. IsTrue (fits_fields i)) }
 {
     match word {
         b"add" => Some(Ins::ADD { s: b, t: c, d: a }),
@@ -79,7 +87,9 @@ pub(crate) fn three(word: &[u8], a: Reg, b: Reg, c: Reg) -> Option<Ins>
 
 /// The instruction of two registers and a shift.
 pub(crate) fn shift(word: &[u8], a: Reg, b: Reg, n: u32) -> Option<Ins>
-    ensures { result ≡ shift word.now a b n }
+    requires { (a.0 < 32) × (b.0 < 32) × (n < 32) }
+    ensures value { result ≡ shift word.now a b n }
+    ensures fits { IfSome result (λ i. IsTrue (fits_fields i)) }
 {
     match word {
         b"sll" => Some(Ins::SLL { t: b, d: a, n }),
@@ -91,7 +101,9 @@ pub(crate) fn shift(word: &[u8], a: Reg, b: Reg, n: u32) -> Option<Ins>
 
 /// The instruction of two registers and 16 bits with a sign.
 pub(crate) fn signed(word: &[u8], a: Reg, b: Reg, imm: u16) -> Option<Ins>
-    ensures { result ≡ signed word.now a b imm }
+    requires { (a.0 < 32) × (b.0 < 32) }
+    ensures value { result ≡ signed word.now a b imm }
+    ensures fits { IfSome result (λ i. IsTrue (fits_fields i)) }
 {
     match word {
         b"addiu" => Some(Ins::ADDIU { s: b, t: a, imm }),
@@ -104,7 +116,9 @@ pub(crate) fn signed(word: &[u8], a: Reg, b: Reg, imm: u16) -> Option<Ins>
 
 /// The instruction of two registers and 16 bits without a sign.
 pub(crate) fn unsigned(word: &[u8], a: Reg, b: Reg, imm: u16) -> Option<Ins>
-    ensures { result ≡ unsigned word.now a b imm }
+    requires { (a.0 < 32) × (b.0 < 32) }
+    ensures value { result ≡ unsigned word.now a b imm }
+    ensures fits { IfSome result (λ i. IsTrue (fits_fields i)) }
 {
     match word {
         b"andi" => Some(Ins::ANDI { s: b, t: a, imm }),
@@ -116,7 +130,9 @@ pub(crate) fn unsigned(word: &[u8], a: Reg, b: Reg, imm: u16) -> Option<Ins>
 
 /// The instruction of a register and 16 bits without a sign.
 pub(crate) fn upper(word: &[u8], a: Reg, imm: u16) -> Option<Ins>
-    ensures { result ≡ upper word.now a imm }
+    requires { a.0 < 32 }
+    ensures value { result ≡ upper word.now a imm }
+    ensures fits { IfSome result (λ i. IsTrue (fits_fields i)) }
 {
     match word {
         b"lui" => Some(Ins::LUI { t: a, imm }),
@@ -126,7 +142,9 @@ pub(crate) fn upper(word: &[u8], a: Reg, imm: u16) -> Option<Ins>
 
 /// The instruction of a register and a place in memory.
 pub(crate) fn place(word: &[u8], a: Reg, imm: u16, s: Reg) -> Option<Ins>
-    ensures { result ≡ place word.now a imm s }
+    requires { (a.0 < 32) × (s.0 < 32) }
+    ensures value { result ≡ place word.now a imm s }
+    ensures fits { IfSome result (λ i. IsTrue (fits_fields i)) }
 {
     match word {
         b"lw" => Some(Ins::LW { s, t: a, imm }),
@@ -147,7 +165,9 @@ pub(crate) fn place(word: &[u8], a: Reg, imm: u16, s: Reg) -> Option<Ins>
 
 /// The instruction of a register and a register of coprocessor 0.
 pub(crate) fn coprocessor(word: &[u8], a: Reg, d: Reg) -> Option<Ins>
-    ensures { result ≡ coprocessor word.now a d }
+    requires { (a.0 < 32) × (d.0 < 32) }
+    ensures value { result ≡ coprocessor word.now a d }
+    ensures fits { IfSome result (λ i. IsTrue (fits_fields i)) }
 {
     match word {
         b"mfc0" => Some(Ins::MFC0 { t: a, d }),
@@ -158,7 +178,9 @@ pub(crate) fn coprocessor(word: &[u8], a: Reg, d: Reg) -> Option<Ins>
 
 /// The instruction of 20 bits.
 pub(crate) fn code(word: &[u8], n: u32) -> Option<Ins>
-    ensures { result ≡ code word.now n }
+    requires { n < 2 ^ 20 }
+    ensures value { result ≡ code word.now n }
+    ensures fits { IfSome result (λ i. IsTrue (fits_fields i)) }
 {
     if is(word, "syscall") {
         return Some(Ins::SYSCALL { code: n });
@@ -171,7 +193,8 @@ pub(crate) fn code(word: &[u8], n: u32) -> Option<Ins>
 
 /// The instruction of a branch.
 pub(crate) fn branch_always(word: &[u8]) -> Option<Ins>
-    ensures { result ≡ branch_always word.now }
+    ensures value { result ≡ branch_always word.now }
+    ensures fits { IfSome result (λ i. IsTrue (fits_fields i)) }
 {
     match word {
         b"b" => Some(Ins::BEQ {
@@ -185,7 +208,9 @@ pub(crate) fn branch_always(word: &[u8]) -> Option<Ins>
 
 /// The instruction of a register and a branch.
 pub(crate) fn branch_one(word: &[u8], a: Reg) -> Option<Ins>
-    ensures { result ≡ branch_one word.now a }
+    requires { a.0 < 32 }
+    ensures value { result ≡ branch_one word.now a }
+    ensures fits { IfSome result (λ i. IsTrue (fits_fields i)) }
 {
     if is(word, "blez") {
         return Some(Ins::BLEZ { s: a, imm: 0 });
@@ -210,7 +235,9 @@ pub(crate) fn branch_one(word: &[u8], a: Reg) -> Option<Ins>
 
 /// The instruction of two registers and a branch.
 pub(crate) fn branch_two(word: &[u8], a: Reg, b: Reg) -> Option<Ins>
-    ensures { result ≡ branch_two word.now a b }
+    requires { (a.0 < 32) × (b.0 < 32) }
+    ensures value { result ≡ branch_two word.now a b }
+    ensures fits { IfSome result (λ i. IsTrue (fits_fields i)) }
 {
     match word {
         b"beq" => Some(Ins::BEQ { s: a, t: b, imm: 0 }),
@@ -221,7 +248,8 @@ pub(crate) fn branch_two(word: &[u8], a: Reg, b: Reg) -> Option<Ins>
 
 /// The instruction of a jump.
 pub(crate) fn jump(word: &[u8]) -> Option<Ins>
-    ensures { result ≡ jump word.now }
+    ensures value { result ≡ jump word.now }
+    ensures fits { IfSome result (λ i. IsTrue (fits_fields i)) }
 {
     match word {
         b"j" => Some(Ins::J { target: 0 }),
@@ -232,7 +260,9 @@ pub(crate) fn jump(word: &[u8]) -> Option<Ins>
 
 /// A branch with other bits: how far it goes.
 pub(crate) fn branch_to(ins: Ins, imm: u16) -> Ins
-    ensures { result ≡ branch_to ins imm }
+    requires { IsTrue (fits_fields ins) }
+    ensures value { result ≡ branch_to ins imm }
+    ensures fits { IsTrue (fits_fields result) }
 {
     match ins {
         Ins::BEQ { s, t, .. } => Ins::BEQ { s, t, imm },
@@ -249,7 +279,10 @@ pub(crate) fn branch_to(ins: Ins, imm: u16) -> Ins
 
 /// A jump with other bits: where it goes.
 pub(crate) fn jump_to(ins: Ins, target: u32) -> Ins
-    ensures { result ≡ jump_to ins target }
+    requires bits { target < 2 ^ 26 }
+    requires fits { IsTrue (fits_fields ins) }
+    ensures value { result ≡ jump_to ins target }
+    ensures fits { IsTrue (fits_fields result) }
 {
     match ins {
         Ins::J { .. } => Ins::J { target },
