@@ -11,7 +11,7 @@ use Rattle.psx_asm.specs.Numbers.{low_word}
 use Rattle.psx_asm.specs.Operands.{Known, Plain}
 use Rattle.psx_asm.specs.Instructions.{branch_to, jump_to}
 use Rattle.psx_asm.specs.Statement.{Statement, Alone, Branches, Jumps, Values, Org}
-use Rattle.psx_asm.specs.Directives.{by_directive}
+use Rattle.psx_asm.specs.Directives.{of_org}
 use Rattle.psx_asm.specs.Line.{Line, ◌>>=◌, statement_of, split_label, checked_label, checked_name, line_after, after, named, width_of}
 use Rattle.psx_asm.specs.Encoding.{aligned, bytes_of, code_of, fitting, branch_bits, jump_bits, encoded}
 
@@ -108,7 +108,6 @@ jumps at ins target bits ps multiple e none reads =
     reads_word at (word (jump_to ins bits)) ps (Jumps ins (Plain (pos target))) tt none reads (λ known. jump_encodes known at ins target bits multiple e)
 
 word_statement : (known : Known) (w : ℕ) → statement_of known (Directive (codes ".word") ∷ Number (pos w) ∷ []) ≡ Ok (Values Word (Plain (pos w) ∷ []))
-unfolding by_directive
 word_statement known w = refl
 
 word_encodes : (known : Known) (at w : ℕ) → at % 4 ≡ 0 → w < 2 ^ 32 → encoded known at (Values Word (Plain (pos w) ∷ [])) ≡ Ok (bytes_of Word w)
@@ -123,7 +122,7 @@ directive at w multiple small =
     reads_word at w (Directive (codes ".word") ∷ Number (pos w) ∷ []) (Values Word (Plain (pos w) ∷ [])) (refl, refl) refl (λ known. word_statement known w) (λ known. word_encodes known at w multiple small)
 
 place_statement : (known : Known) (at : ℕ) → statement_of known (Directive (codes ".org") ∷ Number (pos at) ∷ []) ≡ Ok (Org (low_word (pos at)))
-unfolding by_directive
+unfolding of_org
 place_statement known at = refl
 
 -- the line that says where words stand
