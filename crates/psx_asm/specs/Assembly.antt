@@ -1,9 +1,8 @@
 -- What a text places, by its lines, their statements and their sizes, or its first fault. The language is this project's own.
-use Rattle.std.specs.Prelude.{◌≡◌, ℕ, ◌+◌, nat_lt, ◌==◌, List, [], ◌∷◌, ◌++◌, length, codes, flat_map, Option, Some, None, Result, Ok, Err, if◌then◌else◌}
+use Rattle.std.specs.Prelude.{◌≡◌, ℕ, ◌+◌, nat_lt, ◌==◌, List, [], ◌∷◌, ◌++◌, length, codes, Option, Some, None, Result, Ok, Err, if◌then◌else◌}
 use Rattle.std.specs.List.{slice_split}
 use Rattle.psx_asm.specs.declared.symbol.Symbol.{Symbol}
 use Rattle.psx_asm.specs.declared.symbol.Symbol.TheVariants as symbols
-use Rattle.psx_asm.specs.declared.object.Part.{Part}
 use Rattle.psx_asm.specs.declared.object.Object.{Object}
 use Rattle.psx_asm.specs.declared.fault.AsmFault.{AsmFault}
 use Rattle.psx_asm.specs.declared.fault.AsmError.{AsmError}
@@ -11,7 +10,7 @@ use Rattle.psx_asm.specs.declared.fault.AsmError.TheVariants as errors
 use Rattle.psx_asm.specs.Piece.{Piece, IsReadAs}
 use Rattle.psx_asm.specs.Operands.{Known}
 use Rattle.psx_asm.specs.Line.{Line, ◌>>=◌, line_after, address, known}
-use Rattle.psx_asm.specs.Placing.{addressed, placing}
+use Rattle.psx_asm.specs.Placing.{placing, bytes_of_parts}
 
 -- the most bytes that a text may have
 abbrev pub longest : ℕ
@@ -73,10 +72,6 @@ pub record IsAssemblyOf (text : List ℕ) (from to : ℕ) (answer : Result Place
   pub readings : List (Option (List Piece))
   pub read : AreReadAs (lines_of text) readings
   pub is : answer ≡ (if nat_lt longest (length text) then Err (errors.TooLong longest) else assembled from to readings)
-
--- the bytes of parts, one part behind the other
-abbrev pub bytes_of_parts : List Part → List (ℕ × ℕ)
-bytes_of_parts parts = flat_map (λ p. addressed p.at p.bytes) parts
 
 -- what an object has
 abbrev pub placed_by : Object → Placed

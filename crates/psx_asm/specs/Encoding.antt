@@ -43,8 +43,8 @@ aligned multiple at x = if at % multiple == 0 then x else Err (Range at)
 
 -- a number in so many bytes, the lowest first
 abbrev pub bytes_of : Width → ℕ → List ℕ
-bytes_of Byte n = n ∷ []
-bytes_of Half n = n % 2 ^ 8 ∷ n / 2 ^ 8 ∷ []
+bytes_of Byte n = n % 2 ^ 8 ∷ []
+bytes_of Half n = n % 2 ^ 8 ∷ n / 2 ^ 8 % 2 ^ 8 ∷ []
 bytes_of Word n = n % 2 ^ 8 ∷ n / 2 ^ 8 % 2 ^ 8 ∷ n / 2 ^ 16 % 2 ^ 8 ∷ n / 2 ^ 24 ∷ []
 
 -- an instruction's word
@@ -87,27 +87,43 @@ elements width (n ∷ ns) = do
   more ← elements width ns
   Ok (bytes_of width bits ++ more)
 
--- the bytes of a statement at an address, or its first fault but for the window's
-unfoldable pub encoded : Known → ℕ → Statement → Result (List ℕ) AsmFault
-encoded known at Empty = Ok []
-encoded known at (Alone ins) = aligned 4 at (Ok (code_of ins))
-encoded known at (Pair first second) = aligned 4 at (Ok (code_of first ++ code_of second))
-encoded known at (Branches ins v) = do
+-- a branch at an address
+unfoldable pub of_branch : Known → ℕ → Ins → Value → Result (List ℕ) AsmFault
+of_branch known at ins v = do
   n ← resolved known v
   aligned 4 at (do
     bits ← fitting (low_word n) (branch_bits (at + 4) (low_word n))
     Ok (code_of (branch_to ins bits)))
-encoded known at (Jumps ins v) = do
+
+-- a jump at an address
+unfoldable pub of_jump : Known → ℕ → Ins → Value → Result (List ℕ) AsmFault
+of_jump known at ins v = do
   n ← resolved known v
   aligned 4 at (do
     bits ← fitting (low_word n) (jump_bits (at + 4) (low_word n))
     Ok (code_of (jump_to ins bits)))
-encoded known at (Address t v) = do
+
+-- the instructions at an address by which a register gets a value
+unfoldable pub of_address : Known → ℕ → Reg → Value → Result (List ℕ) AsmFault
+of_address known at t v = do
   n ← resolved known v
   aligned 4 at (Ok (address_code t (low_word n)))
-encoded known at (Values width vs) = do
+
+-- values at an address
+unfoldable pub of_values : Known → ℕ → Width → List Value → Result (List ℕ) AsmFault
+of_values known at width vs = do
   ns ← all_resolved known vs
   aligned (width_of width) at (elements width ns)
+
+-- the bytes of a statement at an address, or its first fault but for the window's
+abbrev pub encoded : Known → ℕ → Statement → Result (List ℕ) AsmFault
+encoded known at Empty = Ok []
+encoded known at (Alone ins) = aligned 4 at (Ok (code_of ins))
+encoded known at (Pair first second) = aligned 4 at (Ok (code_of first ++ code_of second))
+encoded known at (Branches ins v) = of_branch known at ins v
+encoded known at (Jumps ins v) = of_jump known at ins v
+encoded known at (Address t v) = of_address known at t v
+encoded known at (Values width vs) = of_values known at width vs
 encoded known at (Text bytes) = Ok bytes
 encoded known at (Space n) = Ok (replicate n 0)
 encoded known at (Align last) = Ok (replicate (padding last at) 0)

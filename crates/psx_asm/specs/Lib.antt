@@ -11,3 +11,5 @@ pub mod Placing
 pub mod Assembly
 pub mod Shown
 pub mod Names
+pub mod Failing
+pub mod Walking

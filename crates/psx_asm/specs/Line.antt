@@ -136,14 +136,15 @@ named _ w = None
 abbrev pub given : ℕ → Line → List ℕ → Option Symbol
 given at line w = if is_label line.label w then Some (symbols.Address at) else named line.statement w
 
+-- what is said first, or else what is said later
+abbrev pub or_later : Option Symbol → Option Symbol → Option Symbol
+or_later (Some symbol) later = Some symbol
+or_later None later = later
+
 -- what lines that begin at an address say of a name: the first of them that says something
 abbrev pub known_from : ℕ → List Line → Known
 known_from at [] w = None
-known_from at (l ∷ ls) w = first_known (given at l w) (known_from (after at l.statement) ls w)
-  where
-    first_known : Option Symbol → Option Symbol → Option Symbol
-    first_known (Some symbol) later = Some symbol
-    first_known None later = later
+known_from at (l ∷ ls) w = or_later (given at l w) (known_from (after at l.statement) ls w)
 
 -- what a text's first lines say of a name
 abbrev pub known : List Line → Known

@@ -1,6 +1,7 @@
 -- The bytes that a statement places, each at its address.
-use Rattle.std.specs.Prelude.{ℕ, ◌+◌, ◌%◌, ◌^◌, Bool, not, nat_le, ◌&&◌, ◌==◌, List, [], ◌∷◌, find, Option, Some, None, Result, Ok, Err, if◌then◌else◌}
+use Rattle.std.specs.Prelude.{ℕ, ◌+◌, ◌%◌, ◌^◌, Bool, not, nat_le, ◌&&◌, ◌==◌, List, [], ◌∷◌, find, flat_map, Option, Some, None, Result, Ok, Err, if◌then◌else◌}
 use Rattle.std.specs.List.{list_any}
+use Rattle.psx_asm.specs.declared.object.Part.{Part}
 use Rattle.psx_asm.specs.declared.fault.AsmFault.{AsmFault}
 use Rattle.psx_asm.specs.declared.fault.AsmFault.TheVariants.{Range, Overlap}
 use Rattle.psx_asm.specs.Operands.{Known}
@@ -36,3 +37,7 @@ placing known from to at placed s = do
   bytes ← encoded known at s
   new ← in_window (addressed at bytes) (find (λ p. not (is_inside from to p.0)) (addressed at bytes))
   if is_overlap placed new then Err Overlap else Ok new
+
+-- the bytes of parts, one part behind the other
+abbrev pub bytes_of_parts : List Part → List (ℕ × ℕ)
+bytes_of_parts parts = flat_map (λ p. addressed p.at p.bytes) parts

@@ -1,5 +1,6 @@
 -- What the code's values are in the words of the definition.
-use Rattle.std.specs.Prelude.{List, map, Vec}
+use Rattle.std.specs.Prelude.{ℕ, List, map, Option, Some, None}
+use Rattle.std.specs.Borrow.{Bor}
 use Rattle.psx_asm.specs.declared.piece.Piece as lexed
 use Rattle.psx_asm.specs.declared.piece.Piece.TheVariants as pieces
 use Rattle.psx_asm.specs.declared.statement.Value as values
@@ -45,3 +46,8 @@ shown_statement (statements.Space n) = Space n
 shown_statement (statements.Align last) = Align last
 shown_statement (statements.Org at) = Org at
 shown_statement (statements.Equ name n) = Equ name.now n
+
+-- a label
+abbrev pub shown_label : Option (Bor (List ℕ)) → Option (List ℕ)
+shown_label (Some label) = Some label.now
+shown_label None = None

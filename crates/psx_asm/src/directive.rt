@@ -163,7 +163,7 @@ fn of_org<'a>(known: &Symbols<'_>, pieces: &[Piece<'a>]) -> Option<Statement<'a>
     ensures { option_map shown_statement result ≡ of_org (names known.now) (shown pieces.now) }
 {
     match number(known, pieces) {
-        Some((at, [])) => Some(Statement::Org(low_word(at))),
+        Some((at, [])) => Some(Statement::Org(low_word(at as i128))),
         _ => None,
     }
 }

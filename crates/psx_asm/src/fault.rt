@@ -1,5 +1,9 @@
 //! What is wrong with a text.
+ghost use Rattle.std.specs.Prelude.{◌≡◌};
+ghost use Rattle.psx_asm.specs.declared.fault.Failure.TheVariants.{Memory};
+
 use crate::object::Name;
+use std::alloc::{AllocError, AllocFailed};
 
 /// What is wrong with a line. BadToken to Twice are looked for in all lines, in this order in each of them, before NoLabel to Overlap are,
 /// in this order again.
@@ -41,4 +45,20 @@ pub(crate) const LONGEST: usize = 4_194_304;
 pub(crate) enum Failure {
     Memory,
     Fault(AsmFault),
+}
+
+impl From<AllocError> for Failure {
+    ghost from_gives = { λ _ e. e ≡ Memory };
+
+    fn from(_e: AllocError) -> Failure {
+        Failure::Memory
+    }
+}
+
+impl<T: Drop> From<AllocFailed<T>> for Failure {
+    ghost from_gives = { λ _ e. e ≡ Memory };
+
+    fn from(_e: AllocFailed<T>) -> Failure {
+        Failure::Memory
+    }
 }

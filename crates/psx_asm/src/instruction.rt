@@ -64,7 +64,7 @@ fn load<'a>(t: Reg, number: i64) -> Statement<'a>
             let ins = Ins::ORI { s: R0, t, imm };
             Statement::Alone(Code { ins })
         }
-        None => load_halves(t, low_word(number)),
+        None => load_halves(t, low_word(number as i128)),
     }
 }
 

@@ -3,19 +3,26 @@
 //! The top call's command `asm` is to make a program of its objects, and the printer's law to speak of its definition.
 #![tactic(auto)]
 
+mod assemble;
 mod directive;
+mod encode;
 mod fault;
 mod instruction;
+mod line;
 mod number;
 mod object;
 mod operand;
 mod piece;
+mod place;
 mod shape;
 mod shapes;
 mod statement;
 mod symbol;
 mod symbols;
 mod table;
+#[cfg(test)]
+mod tests;
 
+pub use assemble::assemble;
 pub use fault::{AsmError, AsmFault};
 pub use object::{Bytes, Name, Object, Part, Parts};

@@ -1,4 +1,5 @@
 //! What is assembled: bytes, each at its address.
+use std::alloc::{AllocError, Global};
 use std::marker::Model;
 
 /// A name as its bytes. Contracts see it as their list.
@@ -15,6 +16,25 @@ impl Model for Name {
     ghost view = { λ n. n.bytes.items };
 }
 
+impl Name {
+    ghost use Rattle.std.specs.Prelude.{◌≡◌, IfOk};
+
+    /// Lends the bytes.
+    pub fn as_slice(&self) -> &[u8]
+        ensures { result.now ≡ self.now }
+    {
+        self.bytes.as_slice()
+    }
+
+    /// A name of these bytes.
+    pub(crate) fn of(alloc: Global, bytes: &[u8]) -> Result<Name, AllocError>
+        ensures { IfOk result (λ n. n ≡ bytes.now) }
+    {
+        let bytes = Vec::from_slice(alloc, bytes)?;
+        Ok(Name { bytes })
+    }
+}
+
 /// Bytes in order. Contracts see them as their list.
 #[derive(Drop, Debug)]
 pub struct Bytes {
@@ -27,6 +47,24 @@ impl Model for Bytes {
     ghost Value = { List ℕ };
 
     ghost view = { λ b. b.bytes.items };
+}
+
+impl Bytes {
+    ghost use Rattle.std.specs.Prelude.{◌≡◌};
+
+    /// Lends the bytes.
+    pub fn as_slice(&self) -> &[u8]
+        ensures { result.now ≡ self.now }
+    {
+        self.bytes.as_slice()
+    }
+
+    /// These bytes.
+    pub(crate) fn of(bytes: Vec<u8>) -> Bytes
+        ensures { result ≡ bytes.items }
+    {
+        Bytes { bytes }
+    }
 }
 
 /// Bytes that stand one behind the other from an address on, modulo 2^32.
@@ -49,6 +87,24 @@ impl Model for Parts {
     ghost Value = { List Part };
 
     ghost view = { λ p. p.parts.items };
+}
+
+impl Parts {
+    ghost use Rattle.std.specs.Prelude.{◌≡◌};
+
+    /// Lends the parts.
+    pub fn as_slice(&self) -> &[Part]
+        ensures { result.now ≡ self.now }
+    {
+        self.parts.as_slice()
+    }
+
+    /// These parts.
+    pub(crate) fn of(parts: Vec<Part>) -> Parts
+        ensures { result ≡ parts.items }
+    {
+        Parts { parts }
+    }
 }
 
 /// What a text gives: its bytes, and the address of the label `start`.

@@ -1,8 +1,7 @@
 //! The names that a text has given, in the order in which it gave them.
 use crate::symbol::Symbol;
 use indexmap::IndexMap;
-use psx_base::Memory;
-use std::alloc::Global;
+use std::alloc::{AllocError, Global};
 
 /// What a text has given each name. Contracts see it by `names`.
 #[derive(Drop)]
@@ -34,12 +33,12 @@ impl<'a> Symbols<'a> {
     }
 
     /// Gives a name.
-    pub(crate) fn insert(&mut self, name: &'a [u8], symbol: Symbol) -> Result<(), Memory>
+    pub(crate) fn insert(&mut self, name: &'a [u8], symbol: Symbol) -> Result<(), AllocError>
         ensures { OnOk result ((q : List ℕ) → names self.new q ≡ (if bytes_eq name.now q then Some symbol else names self.old q)) }
     {
         match self.map.insert(name, symbol) {
             Ok(_) => Ok(()),
-            Err(_) => Err(Memory),
+            Err(_) => Err(AllocError),
         }
     }
 }
