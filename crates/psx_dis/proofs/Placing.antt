@@ -75,9 +75,9 @@ word_places known from to placed at w s e end held below =
     ap (λ (r : Result (List ℕ) AsmFault). r >>= λ bytes. place_bytes from to placed (addressed at bytes)) e ∙ word_placed from to placed at w end held below
 
 pub empty_places : (known : Known) (from to at : ℕ) (placed : Placed) → placing known from to at placed Empty ≡ Ok []
-unfolding placing encoded
+unfolding placing
 empty_places known from to at placed = refl
 
 pub org_places : (known : Known) (from to at n : ℕ) (placed : Placed) → placing known from to at placed (Org n) ≡ Ok []
-unfolding placing encoded
+unfolding placing
 org_places known from to at n placed = refl

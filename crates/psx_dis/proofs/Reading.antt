@@ -13,7 +13,7 @@ use Rattle.psx_asm.specs.Instructions.{branch_to, jump_to}
 use Rattle.psx_asm.specs.Statement.{Statement, Alone, Branches, Jumps, Values, Org}
 use Rattle.psx_asm.specs.Directives.{of_org}
 use Rattle.psx_asm.specs.Line.{Line, ◌>>=◌, statement_of, split_label, checked_label, checked_name, line_after, after, named, width_of}
-use Rattle.psx_asm.specs.Encoding.{aligned, bytes_of, code_of, fitting, branch_bits, jump_bits, encoded}
+use Rattle.psx_asm.specs.Encoding.{aligned, bytes_of, code_of, fitting, branch_bits, jump_bits, of_branch, of_jump, of_values, encoded}
 
 -- a line without a label
 abbrev pub as_line : Statement → Line
@@ -75,7 +75,6 @@ aligned_here : (at : ℕ) (x : Result (List ℕ) AsmFault) → at % 4 ≡ 0 → 
 aligned_here at x multiple = cond-true (at % 4 == 0) x (Err (Range at)) (eq-eqb (at % 4) 0 multiple)
 
 alone_encodes : (known : Known) (at : ℕ) (ins : Ins) → at % 4 ≡ 0 → encoded known at (Alone ins) ≡ Ok (code_of ins)
-unfolding encoded
 alone_encodes known at ins multiple = aligned_here at (Ok (code_of ins)) multiple
 
 fits_bits : (at : ℕ) (code : ℕ → List ℕ) (o : Option ℕ) (bits : ℕ) → at % 4 ≡ 0 → (number : ℕ) → o ≡ Some bits → aligned 4 at (fitting number o >>= λ b. Ok (code b)) ≡ Ok (code bits)
@@ -84,12 +83,12 @@ fits_bits at code o bits multiple number e =
 
 branch_encodes : (known : Known) (at : ℕ) (ins : Ins) (target bits : ℕ) → at % 4 ≡ 0 → branch_bits (at + 4) (low_word (pos target)) ≡ Some bits
     → encoded known at (Branches ins (Plain (pos target))) ≡ Ok (code_of (branch_to ins bits))
-unfolding encoded
+unfolding of_branch
 branch_encodes known at ins target bits multiple e = fits_bits at (λ b. code_of (branch_to ins b)) (branch_bits (at + 4) (low_word (pos target))) bits multiple (low_word (pos target)) e
 
 jump_encodes : (known : Known) (at : ℕ) (ins : Ins) (target bits : ℕ) → at % 4 ≡ 0 → jump_bits (at + 4) (low_word (pos target)) ≡ Some bits
     → encoded known at (Jumps ins (Plain (pos target))) ≡ Ok (code_of (jump_to ins bits))
-unfolding encoded
+unfolding of_jump
 jump_encodes known at ins target bits multiple e = fits_bits at (λ b. code_of (jump_to ins b)) (jump_bits (at + 4) (low_word (pos target))) bits multiple (low_word (pos target)) e
 
 -- an instruction
@@ -111,7 +110,7 @@ word_statement : (known : Known) (w : ℕ) → statement_of known (Directive (co
 word_statement known w = refl
 
 word_encodes : (known : Known) (at w : ℕ) → at % 4 ≡ 0 → w < 2 ^ 32 → encoded known at (Values Word (Plain (pos w) ∷ [])) ≡ Ok (bytes_of Word w)
-unfolding encoded
+unfolding of_values
 word_encodes known at w multiple small =
     let same : low_word (pos w) ≡ w = omega arith in
     aligned_here at (Ok (bytes_of Word (low_word (pos w)) ++ [])) multiple ∙ ap (λ (n : ℕ). Ok (bytes_of Word n)) same
