@@ -13,7 +13,7 @@ use Rattle.psx_asm.specs.Instructions.{branch_to, jump_to}
 use Rattle.psx_asm.specs.Statement.{Statement, Alone, Branches, Jumps, Values, Org}
 use Rattle.psx_asm.specs.Directives.{of_org}
 use Rattle.psx_asm.specs.Line.{Line, ◌>>=◌, statement_of, split_label, checked_label, checked_name, line_after, after, named, width_of}
-use Rattle.psx_asm.specs.Encoding.{aligned, bytes_of, code_of, fitting, branch_bits, jump_bits, of_branch, of_jump, of_values, encoded}
+use Rattle.psx_asm.specs.Encoding.{aligned, bytes_of, code_of, fitting, branch_bits, jump_bits, of_branch, of_jump, encoded}
 
 -- a line without a label
 abbrev pub as_line : Statement → Line
@@ -110,7 +110,6 @@ word_statement : (known : Known) (w : ℕ) → statement_of known (Directive (co
 word_statement known w = refl
 
 word_encodes : (known : Known) (at w : ℕ) → at % 4 ≡ 0 → w < 2 ^ 32 → encoded known at (Values Word (Plain (pos w) ∷ [])) ≡ Ok (bytes_of Word w)
-unfolding of_values
 word_encodes known at w multiple small =
     let same : low_word (pos w) ≡ w = omega arith in
     aligned_here at (Ok (bytes_of Word (low_word (pos w)) ++ [])) multiple ∙ ap (λ (n : ℕ). Ok (bytes_of Word n)) same
