@@ -13,3 +13,4 @@ pub mod Shown
 pub mod Names
 pub mod Failing
 pub mod Walking
+pub mod Output

@@ -205,11 +205,7 @@ fn of_address(
     let first = Ins::LUI { t, imm };
     let imm = (word % 65_536) as u16;
     let second = Ins::ORI { s: t, t, imm };
-    Ok(pair_of(
-        alloc,
-        Code { ins: first },
-        Code { ins: second },
-    )?)
+    Ok(pair_of(alloc, Code { ins: first }, Code { ins: second })?)
 }
 
 // The bits of a value of a list.

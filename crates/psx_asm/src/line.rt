@@ -137,11 +137,7 @@ fn checked_label<'a>(
 }
 
 // A line whose name of `.equ` the text didn't give before, nor the line as its label.
-fn checked_name<'a>(
-    alloc: Global,
-    known: &Symbols<'_>,
-    line: Line<'a>,
-) -> Result<Line<'a>, Failure>
+fn checked_name<'a>(alloc: Global, known: &Symbols<'_>, line: Line<'a>) -> Result<Line<'a>, Failure>
     ensures { Gives shown_line result (checked_name (names known.now) (shown_line line.entry) (shown_statement line.entry.statement)) }
 {
     if let Statement::Equ(name, _) = &line.statement {
