@@ -1,1 +1,4 @@
 pub mod ValueLists
+pub mod Readings
+pub mod Known
+pub mod Returned
