@@ -13,3 +13,5 @@ pub mod Shown
 pub mod Names
 pub mod Failing
 pub mod Walking
+pub mod Output
+pub mod Rounds

@@ -3,7 +3,7 @@
 //! The top call's command `asm` is to make a program of its objects, and the printer's law to speak of its definition.
 #![tactic(auto)]
 
-mod assemble;
+mod assembly;
 mod directive;
 mod encode;
 mod fault;
@@ -23,6 +23,6 @@ mod table;
 #[cfg(test)]
 mod tests;
 
-pub use assemble::assemble;
+pub use assembly::{assemble, object_or_fault};
 pub use fault::{AsmError, AsmFault};
 pub use object::{Bytes, Name, Object, Part, Parts};

@@ -63,10 +63,7 @@ fn pieces_of<'a>(
 }
 
 /// The pieces of a line, or none where it has a byte that begins no token.
-pub(crate) fn read<'a>(
-    alloc: Global,
-    line: &'a [u8],
-) -> Result<Option<Vec<Piece<'a>>>, AllocError>
+pub(crate) fn read<'a>(alloc: Global, line: &'a [u8]) -> Result<Option<Vec<Piece<'a>>>, AllocError>
     ensures { (reading : Option (List Words)) → IsReadAs line.now reading → IfOk result (λ r. option_map (λ v. shown v.items) r ≡ reading) }
 {
     match tokens(alloc, line) {
