@@ -8,3 +8,5 @@ pub mod Addresses
 pub mod Window
 pub mod Rounds
 pub mod Lines
+pub mod Behind
+pub mod Whole

@@ -1,6 +1,6 @@
 //! A text assembled.
 ghost use Rattle.std.specs.Prelude.{◌≡◌, ◌⊎◌, ◌≤◌, ◌==◌, Option, Ok, Err, Result, IfOk, IfErr, MatchResult, List, [], length, drop, map, codes};
-ghost use Rattle.std.specs.List.{before_first};
+ghost use Rattle.std.specs.List.{before_first, position_or_len};
 ghost use Rattle.psx_asm.specs.declared.fault.AsmError.{AsmError as Fault};
 ghost use Rattle.psx_asm.specs.Piece.{Piece};
 ghost use Rattle.psx_asm.specs.Names.{names};
@@ -18,16 +18,21 @@ use crate::symbols::Symbols;
 use std::alloc::{AllocError, Global};
 use std::collections::HashSet;
 
+// How many bytes the first line of a text has.
+fn line_len(text: &[u8]) -> usize
+    ensures value { result ≡ position_or_len (λ b. b == 10) text.now }
+    ensures within { result ≤ length text.now }
+{
+    text.iter().take_while(|byte| **byte != 10).count()
+}
+
 // The line that begins at a place.
 fn line_at(text: &[u8], from: usize) -> &[u8]
     requires { from ≤ length text.now }
     ensures { result.now ≡ before_first (λ b. b == 10) (drop from text.now) }
 {
     let rest = &text[from..];
-    match rest.iter().position(|byte| *byte == 10) {
-        Some(len) => &rest[..len],
-        None => rest,
-    }
+    &rest[..line_len(rest)]
 }
 
 // The fault of a line.

@@ -214,9 +214,10 @@ pub(crate) fn placed(
         Ok(bytes) => bytes,
         Err(failure) => return Err(failure),
     };
-    if is_overlap(taken, at, bytes.len()) {
+    let count = bytes.as_slice().len();
+    if is_overlap(taken, at, count) {
         return Err(Failure::Fault(AsmFault::Overlap));
     }
-    take(taken, at, bytes.len())?;
+    take(taken, at, count)?;
     Ok(output.with(alloc, at, bytes)?)
 }
