@@ -70,8 +70,8 @@ taken_more placed at a i q bytes old new small below here so_far updated =
     let xs = addressed at (take i bytes) in
     let len : length (take i bytes) ≡ i = length-take-le i bytes (omega arith) in
     let last : addressed at (take (i + 1) bytes) ≡ xs ++ (a, get_or bytes i 0) ∷ [] =
-      ap (addressed at) (take_more bytes i 0 below) ∙ addressed-append at (take i bytes) (get_or bytes i 0 ∷ []) small
-      ∙ ap (λ n. xs ++ (n, get_or bytes i 0) ∷ []) (ap (λ n. (at + n) % 2 ^ 32) len ∙ sym here) in
+    ap (addressed at) (take_more bytes i 0 below) ∙ addressed-append at (take i bytes) (get_or bytes i 0 ∷ []) small
+    ∙ ap (λ n. xs ++ (n, get_or bytes i 0) ∷ []) (ap (λ n. (at + n) % 2 ^ 32) len ∙ sym here) in
     updated ∙ cond_or (nat_eq a q) old ∙ ap (λ b. b || (nat_eq a q || false)) so_far
     ∙ sym (list_any-append (λ p. p.0 == q) (placed ++ xs) ((a, get_or bytes i 0) ∷ []))
     ∙ ap (λ l. is_taken l q) (append_assoc placed xs ((a, get_or bytes i 0) ∷ []) ∙ ap (λ l. placed ++ l) (sym last))

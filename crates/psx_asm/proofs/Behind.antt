@@ -71,7 +71,7 @@ pub line_fails : (text : List ℕ) (readings : Readings) (from : ℕ) (walk : Wa
 line_fails text readings from walk held line e b within is fails =
     let n = next text from line b.lines b.rest b.left b.read within is in
     let bad : Fails e (line_after (known b.before) n.reading) =
-      subst (λ k. Fails e (line_after k n.reading)) (same_known b.before walk b.stands) (fails n.reading n.here) in
+    subst (λ k. Fails e (line_after k n.reading)) (same_known b.before walk b.stands) (fails n.reading n.here) in
     subst (λ r. IsErrorOf (error_at (walk.number + 1) e) r) (sym (b.round ∙ ap (first_round b.before) n.is))
     (error_as (walk.number + 1) (length b.before + 1) e _ (λ l. first_round (b.before ++ l ∷ []) n.others) (ap (λ m. m + 1) b.stands.number) bad)
 
@@ -93,9 +93,9 @@ line_passes text readings from walk after held then line l b within is given pas
       round = b.round ∙ ap (first_round b.before) n.is ∙ ap (λ r. numbered (length b.before + 1) r >>= λ x. first_round (b.before ++ x ∷ []) n.others) good;
       stands = passes b.before n.reading b.stands good;
       items = kept ∙ ap (λ i. i ++ item (walk.number + 1) walk.at l.statement) b.items
-        ∙ ap (λ m. items_behind [] b.before ++ item (m + 1) walk.at l.statement) b.stands.number
-        ∙ ap (λ m. items_behind [] b.before ++ item (length b.before + 1) m l.statement) b.stands.at
-        ∙ sym (items_behind-push [] b.before l);
+          ∙ ap (λ m. items_behind [] b.before ++ item (m + 1) walk.at l.statement) b.stands.number
+          ∙ ap (λ m. items_behind [] b.before ++ item (length b.before + 1) m l.statement) b.stands.at
+          ∙ sym (items_behind-push [] b.before l);
     }
 
 ended : (lines : List (List ℕ)) (rest : Readings) → lines ≡ [] → AreReadAs lines rest → rest ≡ []

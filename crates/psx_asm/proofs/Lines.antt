@@ -33,25 +33,25 @@ pub line_and : (text : List ℕ) (from : ℕ) (line : List ℕ) (lines : List (L
     → line ≡ before_first ends_line (drop from text) → LineAnd text from line lines
 line_and text from line lines left within is = ⊎_elim (λ here. ⊎_elim
     (λ ended.
-      let count : length line ≡ position_or_len ends_line (drop from text) = ap length is ∙ length-take-le (position_or_len ends_line (drop from text)) (drop from text) (omega arith) in
-      let far : from + length line + 1 ≤ length text = omega (arith, length-drop from text) in
-      let same : from + (position_or_len ends_line (drop from text) + 1) ≡ from + length line + 1 = omega arith in
-      let behind : after_first ends_line (drop from text) ≡ drop (from + length line + 1) text =
-        drop-drop (position_or_len ends_line (drop from text) + 1) from text ∙ ap (λ n. drop n text) same in
-      record {
-        more = lines_of (drop (from + length line + 1) text);
-        split = here.1 ∙ slice_split_first ends_line (drop from text) 0 ended
+    let count : length line ≡ position_or_len ends_line (drop from text) = ap length is ∙ length-take-le (position_or_len ends_line (drop from text)) (drop from text) (omega arith) in
+    let far : from + length line + 1 ≤ length text = omega (arith, length-drop from text) in
+    let same : from + (position_or_len ends_line (drop from text) + 1) ≡ from + length line + 1 = omega arith in
+    let behind : after_first ends_line (drop from text) ≡ drop (from + length line + 1) text =
+    drop-drop (position_or_len ends_line (drop from text) + 1) from text ∙ ap (λ n. drop n text) same in
+    record {
+      more = lines_of (drop (from + length line + 1) text);
+      split = here.1 ∙ slice_split_first ends_line (drop from text) 0 ended
           ∙ ap (λ l. l ∷ lines_of (after_first ends_line (drop from text))) (sym is)
           ∙ ap (λ l. line ∷ lines_of l) behind;
-        left = inl (far, refl);
-      })
+      left = inl (far, refl);
+    })
     (λ last.
-      let whole : line ≡ drop from text = is ∙ take_all (position_or_len ends_line (drop from text)) (drop from text) last in
-      let far : length text < from + length line + 1 = omega (arith, length-drop from text, ap length whole) in
-      record {
-        more = [];
-        split = here.1 ∙ one_line (drop from text) last ∙ ap (λ l. l ∷ []) (sym whole);
-        left = inr (far, refl);
-      })
+    let whole : line ≡ drop from text = is ∙ take_all (position_or_len ends_line (drop from text)) (drop from text) last in
+    let far : length text < from + length line + 1 = omega (arith, length-drop from text, ap length whole) in
+    record {
+      more = [];
+      split = here.1 ∙ one_line (drop from text) last ∙ ap (λ l. l ∷ []) (sym whole);
+      left = inr (far, refl);
+    })
     (cases_lt (position_or_len ends_line (drop from text)) (length (drop from text))))
     (λ past. absurd (omega arith)) left

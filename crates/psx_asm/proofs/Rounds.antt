@@ -20,7 +20,7 @@ items_behind-push before [] l =
 items_behind-push before (x ∷ xs) l =
     let here = item (length before + 1) (address before) x.statement in
     ap (λ i. here ++ i) (items_behind-push (before ++ x ∷ []) xs l
-      ∙ ap (λ b. items_behind (before ++ x ∷ []) xs ++ item (length b + 1) (address b) l.statement) (append_assoc before (x ∷ []) xs))
+    ∙ ap (λ b. items_behind (before ++ x ∷ []) xs ++ item (length b + 1) (address b) l.statement) (append_assoc before (x ∷ []) xs))
     ∙ sym (append_assoc here (items_behind (before ++ x ∷ []) xs) (item (length (before ++ x ∷ xs) + 1) (address (before ++ x ∷ xs)) l.statement))
 
 module _ (names : Known) (from to : ℕ) where

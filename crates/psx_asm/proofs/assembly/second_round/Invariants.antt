@@ -10,5 +10,5 @@ abbrev pub invariant-loop-item : goal.invariant-loop-item
 invariant-loop-item l = record {
   taken : IsTakenBy l.taken (shown_output l.output);
   so_far : placed_items (names l.known) l.window.from l.window.to (shown_output l.output) (map shown_item (drop l.item-index l.items))
-    ≡ placed_items (names l.known) l.window.from l.window.to [] (map shown_item l.items);
+      ≡ placed_items (names l.known) l.window.from l.window.to [] (map shown_item l.items);
 }

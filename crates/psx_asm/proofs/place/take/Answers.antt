@@ -8,9 +8,9 @@ pub loop-preserved : goal.loop-preserved
 loop-preserved c = record {
   here = omega (arith, c.next-address.ensures, c.loop.invariant.here);
   so_far = λ placed bytes taken len q.
-    let below : c.loop.counter < length bytes = omega arith in
-    let small : c.args.at < 2 ^ 32 = omega (arith, c.ranges.at.fits) in
-    taken_more placed c.args.at c.loop.address c.loop.counter q bytes _ _ small below c.loop.invariant.here (c.loop.invariant.so_far placed bytes taken len q) (c.in_ok-insert.ensures.updates.0 q);
+      let below : c.loop.counter < length bytes = omega arith in
+      let small : c.args.at < 2 ^ 32 = omega (arith, c.ranges.at.fits) in
+      taken_more placed c.args.at c.loop.address c.loop.counter q bytes _ _ small below c.loop.invariant.here (c.loop.invariant.so_far placed bytes taken len q) (c.in_ok-insert.ensures.updates.0 q);
 }
 
 pub returns : goal.returns

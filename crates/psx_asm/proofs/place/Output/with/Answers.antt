@@ -9,5 +9,5 @@ returns-then-goes_on_at c =
     let here = addressed c.args.self.at c.args.self.bytes.items in
     ap (λ l. before ++ addressed c.args.self.at l) (c.in_ok-extend_from_slice.ensures.items ∙ ap (λ l. c.args.self.bytes.items ++ l) c.as_slice.ensures.value)
     ∙ ap (λ l. before ++ l) (addressed-append c.args.self.at c.args.self.bytes.items c.args.more.items c.goes_on_at.ensures.small
-      ∙ ap (λ n. here ++ addressed n c.args.more.items) (sym (c.if-goes_on_at.ensures.behind refl)))
+    ∙ ap (λ n. here ++ addressed n c.args.more.items) (sym (c.if-goes_on_at.ensures.behind refl)))
     ∙ sym (append_assoc before here (addressed c.args.at c.args.more.items))
