@@ -1,20 +1,16 @@
--- Words at their places, counted in words.
-use Rattle.std.specs.Prelude.{◌≡◌, ℕ, ◌+◌, ◌-◌, ◌<◌, List, length, map, slice_index, if◌then◌else◌, ◌&&◌, nat_lt, nat_le}
+-- Words and the bytes that they are.
+use Rattle.std.specs.Prelude.{◌≡◌, ℕ, ◌+◌, ◌*◌, ◌%◌, ◌^◌, ◌<◌, List, map, slice_index}
 use Rattle.std.specs.List.{range_with_len}
-
--- no word but 0
-abbrev pub nothing : ℕ → ℕ
-nothing k = 0
-
--- these words from a place on, and elsewhere as before
-unfoldable pub over : ℕ → List ℕ → (ℕ → ℕ) → ℕ → ℕ
-over at words f k = if nat_le at k && nat_lt k (at + length words) then slice_index words (k - at) else f k
-
--- a list of n numbers has these values at its places
-pub record Reads (words : List ℕ) (n : ℕ) (f : ℕ → ℕ) : Type 0 where
-  pub len : length words ≡ n
-  pub at : (k : ℕ) → k < n → slice_index words k ≡ f k
+use Rattle.kern_layout.specs.BlockWords.{block_word}
 
 -- the first n values of a function
 unfoldable pub listed : (ℕ → ℕ) → ℕ → List ℕ
 listed f n = map f (range_with_len 0 n)
+
+-- the word at a place of a list of bytes, its lowest byte first
+abbrev pub word_of : List ℕ → ℕ → ℕ
+word_of bytes o = slice_index bytes o + slice_index bytes (o + 1) * 2 ^ 8 + slice_index bytes (o + 2) * 2 ^ 16 + slice_index bytes (o + 3) * 2 ^ 24
+
+-- the kernel's block has these words at its addresses
+abbrev pub HasWords : List ℕ → (ℕ → ℕ) → Type 0
+HasWords words w = (a : ℕ) → a % 4 ≡ 0 → a < 0x10000 → block_word words a ≡ w a

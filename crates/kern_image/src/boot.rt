@@ -1,11 +1,11 @@
 //! The words of the boot code, which the processor runs first, at the start of the ROM.
 //! Each line has the word, the low half of its address, and its assembly. The instruction behind a load neither reads nor writes its register (R3000A manual, load delay).
 
-/// The boot code: copies the kernel's 64 KB to main memory, reads the start ports and leaves to the program.
+/// The boot code: copies the kernel's 64 KB to main memory, stores the two sizes where the kernel keeps them, and leaves to the program with the start ports' values.
 ///
 /// It begins at BFC00000h. At its RFE r4 is 1, r31 is 000000D0h, k0 is the start pc, gp and sp are the start ports', fp is sp,
-/// and every other register is 0. That RFE is the 38,939th step, whatever the program: counted, not proved.
-pub const BOOT: [u32; 46] = [
+/// and every other register is 0. That RFE is the 38,941st step, whatever the program.
+pub const BOOT: [u32; 48] = [
     0x3C08BFC1, // 0000  lui r8, 0xBFC1           the block in the ROM
     0x3C098000, // 0004  lui r9, 0x8000           its place in main memory
     0x3C0ABFC2, // 0008  lui r10, 0xBFC2          the block's end in the ROM
@@ -33,24 +33,26 @@ pub const BOOT: [u32; 46] = [
     0x8D1A2118, // 005C  lw k0, 0x2118(r8)        start pc
     0x8D1C211C, // 0060  lw gp, 0x211C(r8)        start gp
     0x8D1D2120, // 0064  lw sp, 0x2120(r8)        start sp
-    0x8D092124, // 0068  lw r9, 0x2124(r8)        the number of threads
-    0x8D0A2128, // 006C  lw r10, 0x2128(r8)       the number of events
+    0x8D0A2124, // 0068  lw r10, 0x2124(r8)       the number of threads
+    0x8D0B2128, // 006C  lw r11, 0x2128(r8)       the number of events
     0x03A0F025, // 0070  or fp, sp, r0
-    0x24040001, // 0074  addiu r4, r0, 1
-    0x241F00D0, // 0078  addiu r31, r0, 0xD0      a return of the program ends it
-    0x24080404, // 007C  addiu r8, r0, 0x404      RFE makes it 401h: interrupts on
-    0x40886000, // 0080  mtc0 r8, sr
-    0x00004025, // 0084  or r8, r0, r0            every other register is 0
-    0x00004825, // 0088  or r9, r0, r0
-    0x00005025, // 008C  or r10, r0, r0
-    0x00005825, // 0090  or r11, r0, r0
-    0x00006025, // 0094  or r12, r0, r0
-    0x00006825, // 0098  or r13, r0, r0
-    0x00007025, // 009C  or r14, r0, r0
-    0x00007825, // 00A0  or r15, r0, r0
-    0x00008025, // 00A4  or r16, r0, r0
-    0x00008825, // 00A8  or r17, r0, r0
-    0x00009025, // 00AC  or r18, r0, r0
-    0x03400008, // 00B0  jr k0
-    0x42000010, // 00B4  rfe
+    0xAD2AEA0C, // 0074  sw r10, 0xEA0C(r9)       r9 is 80010000h: THREAD_COUNT
+    0xAD2BEA10, // 0078  sw r11, 0xEA10(r9)       EVENT_COUNT
+    0x24040001, // 007C  addiu r4, r0, 1
+    0x241F00D0, // 0080  addiu r31, r0, 0xD0      a return of the program ends it
+    0x24080404, // 0084  addiu r8, r0, 0x404      RFE makes it 401h: interrupts on
+    0x40886000, // 0088  mtc0 r8, sr
+    0x00004025, // 008C  or r8, r0, r0            every other register is 0
+    0x00004825, // 0090  or r9, r0, r0
+    0x00005025, // 0094  or r10, r0, r0
+    0x00005825, // 0098  or r11, r0, r0
+    0x00006025, // 009C  or r12, r0, r0
+    0x00006825, // 00A0  or r13, r0, r0
+    0x00007025, // 00A4  or r14, r0, r0
+    0x00007825, // 00A8  or r15, r0, r0
+    0x00008025, // 00AC  or r16, r0, r0
+    0x00008825, // 00B0  or r17, r0, r0
+    0x00009025, // 00B4  or r18, r0, r0
+    0x03400008, // 00B8  jr k0
+    0x42000010, // 00BC  rfe
 ];

@@ -1,11 +1,13 @@
 //! The image: the kernel's words at their places, and the bytes of the ROM.
-ghost use Rattle.std.specs.Prelude.{◌≡◌, ℕ, ◌<◌, ◌*◌, ◌^◌, List, length, IfOk};
-ghost use Rattle.kern_image.specs.Words.{Reads, nothing, over};
-ghost use Rattle.kern_image.specs.Rom.{gates_over, kernel_over, kernel_word, rom, rom_byte, rom_word};
+ghost use Rattle.std.specs.Prelude.{◌≡◌, ℕ, ◌<◌, ◌*◌, ◌/◌, ◌%◌, ◌^◌, List, length, flat_map, slice_index, IfOk};
+ghost use Rattle.byteorder.specs.Endian.{little_bytes};
+ghost use Rattle.kern_image.specs.Words.{HasWords};
+ghost use Rattle.kern_image.specs.Rom.{kernel_word, rom, rom_word, rom_words};
 
-use crate::block::{BLOCK_WORDS, KernelBlock};
 use crate::boot::BOOT;
-use crate::entry::{ENTRY, GATE, VECTOR};
+use byteorder::{ByteOrder, LittleEndian};
+use kern_entry::place;
+use kern_layout::{KernelBlock, put_opening};
 use psx_base::Memory;
 use std::alloc::{AllocError, Global};
 use std::marker::Model;
@@ -13,11 +15,11 @@ use std::marker::Model;
 /// How many words the ROM has.
 const ROM_WORDS: u32 = 0x2_0000;
 
-/// Where the kernel's block begins in the ROM, counted in words.
-const BLOCK_FROM: u32 = 0x4000;
+/// The offset at which the kernel's block begins in the ROM.
+const BLOCK_FROM: u32 = 0x1_0000;
 
-/// Where the kernel's block ends in the ROM, counted in words.
-const BLOCK_TO: u32 = 0x8000;
+/// The offset behind the kernel's block.
+const BLOCK_TO: u32 = 0x2_0000;
 
 /// The bytes of the ROM. Each image is the same one.
 #[derive(Drop)]
@@ -43,127 +45,79 @@ impl Image {
     }
 }
 
-// Writes the five gates.
-fn place_gates(block: &mut KernelBlock)
-    ensures { (f : ℕ → ℕ) → Reads block.old BLOCK_WORDS f → Reads block.new BLOCK_WORDS (gates_over f) }
-{
-    block.put_words(0xE0, &GATE);
-    block.put_words(0xD0, &GATE);
-    block.put_words(0xC0, &GATE);
-    block.put_words(0xB0, &GATE);
-    block.put_words(0xA0, &GATE);
-}
-
-// Writes the entry code, the gates and the vector.
-fn place(block: &mut KernelBlock)
-    ensures { (f : ℕ → ℕ) → Reads block.old BLOCK_WORDS f → Reads block.new BLOCK_WORDS (kernel_over f) }
-{
-    block.put_words(0x1000, &ENTRY);
-    place_gates(block);
-    block.put_words(0x80, &VECTOR);
-}
-
-// The kernel's block with its words.
-fn kernel(alloc: Global) -> Result<KernelBlock, AllocError>
-    ensures { IfOk result (λ b. Reads b BLOCK_WORDS kernel_word) }
+// The kernel's block: the words of the kernel's code, and the opening values.
+fn kernel(alloc: Global) -> Result<KernelBlock, Memory>
+    ensures { IfOk result (λ b. HasWords b kernel_word) }
 {
     let mut block = KernelBlock::new(alloc)?;
     place(&mut block);
+    put_opening(&mut block);
     Ok(block)
 }
 
-// The word of a list at a place, and 0 behind it.
-#[tactic(auto, unfolding(crate::specs::Words::over))]
-fn word_in(words: &[u32], place: u32) -> u32
+// The word of a list at an offset, and 0 behind it.
+fn word_in(words: &[u32], offset: u32) -> u32
     requires { length words.now < 2 ^ 32 }
-    ensures { result ≡ over 0 words.now nothing place }
+    ensures { result ≡ slice_index words.now (offset / 4) }
 {
-    if place < words.len() as u32 {
-        words[place as usize]
-    } else {
-        0
-    }
+    let place = (offset / 4) as usize;
+    if place < words.len() { words[place] } else { 0 }
 }
 
-// The word of the ROM at a place, counted in words.
-#[tactic(auto, unfolding(crate::specs::Rom::rom_word))]
-fn word_at(block: &KernelBlock, place: u32) -> u32
-    requires block { Reads block.now BLOCK_WORDS kernel_word }
-    requires within { place < ROM_WORDS }
-    ensures { result ≡ rom_word place }
+// The word of the ROM at an offset, a multiple of 4.
+#[tactic(auto, unfolding(crate::specs::Rom::rom_word, crate::specs::Rom::boot_word))]
+fn word_at(block: &KernelBlock, offset: u32) -> u32
+    requires block { HasWords block.now kernel_word }
+    requires aligned { offset % 4 ≡ 0 }
+    ensures { result ≡ rom_word offset }
 {
-    if place < BLOCK_FROM {
-        return word_in(&BOOT, place);
+    if offset < BLOCK_FROM {
+        return word_in(&BOOT, offset);
     }
-    if place < BLOCK_TO {
-        return block.word(4 * (place - BLOCK_FROM));
+    if offset < BLOCK_TO {
+        return block.word(offset - BLOCK_FROM);
     }
     0
 }
 
-// The bytes of the ROM, each word with its lowest byte first.
-fn bytes_of(alloc: Global, block: &KernelBlock) -> Result<Vec<u8>, AllocError>
-    requires { Reads block.now BLOCK_WORDS kernel_word }
-    ensures { IfOk result (λ v. Reads v.items 0x80000 rom_byte) }
+// The words of the ROM, in their order.
+fn words_of(alloc: Global, block: &KernelBlock) -> Result<Vec<u32>, AllocError>
+    requires { HasWords block.now kernel_word }
+    ensures { IfOk result (λ v. v.items ≡ rom_words) }
 {
-    let mut bytes = Vec::with_capacity(alloc, 0x8_0000)?;
+    let mut words = Vec::with_capacity(alloc, ROM_WORDS as usize)?;
     for place in 0..ROM_WORDS {
-        let word = word_at(block, place);
-        bytes.extend_from_slice(&word.to_le_bytes())?;
+        words.push(word_at(block, 4 * place))?;
     }
+    Ok(words)
+}
+
+// The bytes of words, each word with its lowest byte first.
+fn bytes_of(alloc: Global, words: &[u32]) -> Result<Vec<u8>, AllocError>
+    requires { length words.now < 2 ^ 32 }
+    ensures { IfOk result (λ v. v.items ≡ flat_map (little_bytes 4) words.now) }
+{
+    let mut bytes = vec![in alloc; 0u8; 4 * words.len()]?;
+    LittleEndian::write_u32_into(words, &mut bytes);
     Ok(bytes)
 }
 
-// The image, with std's error.
-fn allocated(alloc: Global) -> Result<Image, AllocError> {
-    let block = kernel(alloc)?;
-    let bytes = bytes_of(alloc, &block)?;
-    Ok(Image { bytes })
+// The bytes of the ROM.
+fn rom_bytes(alloc: Global, block: &KernelBlock) -> Result<Vec<u8>, AllocError>
+    requires { HasWords block.now kernel_word }
+    ensures { IfOk result (λ v. v.items ≡ rom) }
+{
+    let words = words_of(alloc, block)?;
+    bytes_of(alloc, &words)
 }
 
-/// The image. It takes 512 KB, and 64 KB more while it is built.
+/// The image. It takes 512 KB, and 576 KB more while it is built.
 pub fn build(alloc: Global) -> Result<Image, Memory>
     ensures { IfOk result (λ i. i ≡ rom) }
 {
-    allocated(alloc).map_err(|_| Memory)
-}
-
-#[cfg(test)]
-mod tests {
-    use super::*;
-
-    // Bytes by hand from the R3000A manual's encodings and the memory map.
-    #[test]
-    fn holds_known_bytes(rt: HostRuntime) {
-        let Ok(image) = build(rt.alloc()) else {
-            panic!(rt; "no memory");
-        };
-        let rom = image.rom();
-        assert_eq!(rt; rom.len(), 524_288);
-        for (at, byte) in [
-            // lui r8, 0xBFC1 at reset
-            (0, 0xC1),
-            (1, 0xBF),
-            (2, 0x08),
-            (3, 0x3C),
-            // j 0x80001000 at the vector
-            (0x10081, 0x04),
-            (0x10083, 0x08),
-            // syscall at each gate
-            (0x100A0, 0x0C),
-            (0x100B0, 0x0C),
-            (0x100C0, 0x0C),
-            (0x100D0, 0x0C),
-            (0x100E0, 0x0C),
-            // mfc0 k0, cause at the entry
-            (0x11000, 0x00),
-            (0x11001, 0x68),
-            (0x11002, 0x1A),
-            (0x11003, 0x40),
-            // the last
-            (524_287, 0),
-        ] {
-            assert_eq!(rt; rom.get(at).copied(), Some(byte), "at {at}");
-        }
-    }
+    let block = kernel(alloc)?;
+    let Ok(bytes) = rom_bytes(alloc, &block) else {
+        return Err(Memory);
+    };
+    Ok(Image { bytes })
 }

@@ -1,4 +1,4 @@
-//! Whole runs of programs over hosts in memory. The expected counts are those of a simulation of the image's words by hand.
+//! Whole runs of programs over hosts in memory. The expected counts are those of the image's words, counted by hand.
 use crate::programs::{HELLO, HELLO_TRACE, RUN, host_with, program};
 use psx_base::Out;
 use psxk_run::psxk;
@@ -59,7 +59,12 @@ fn names_what_the_kernel_does_not_serve(rt: HostRuntime) {
         1,
         b" Unserved C 00000005 000000D0\n",
     );
-    stops(&rt, &[0x0000_000C], 1, b" Unserved Y 00000001 80010000\n");
+    stops(
+        &rt,
+        &[0x2404_0003, 0x0000_000C],
+        1,
+        b" Unserved Y 00000003 80010004\n",
+    );
     stops(
         &rt,
         &[0x240A_00E0, 0x0140_0008, 0],
@@ -115,37 +120,37 @@ fn shows_entries_and_stops(rt: HostRuntime) {
     traces(
         &rt,
         &[0x3C03_8000, 0x8C62_0102],
-        b"B 38939\nE 38940 00000010 80010004 T 00000004\nS ",
+        b"B 38941\nE 38942 00000010 80010004 T 00000004\nS ",
     );
     traces(
         &rt,
         &[0x0000_000D],
-        b"B 38939\nE 38939 00000024 80010000 T 00000009\nS ",
+        b"B 38941\nE 38941 00000024 80010000 T 00000009\nS ",
     );
     traces(
         &rt,
         &[0x2409_0031, 0x240A_00A0, 0x0140_F809, 0],
-        b"B 38939\nE 38943 00000020 000000A0 A 00000031\nS ",
+        b"B 38941\nE 38945 00000020 000000A0 A 00000031\nS ",
     );
     traces(
         &rt,
         &[0x8C02_0000],
-        b"B 38939\nS 38939 UserData 80010000 00000000\n",
+        b"B 38941\nS 38941 UserData 80010000 00000000\n",
     );
     traces(
         &rt,
         &[0x0800_0020, 0],
-        b"B 38939\nS 38941 UserFetch 80000080\n",
+        b"B 38941\nS 38943 UserFetch 80000080\n",
     );
     traces(
         &rt,
         &[0x4002_6000],
-        b"B 38939\nS 38939 Protected 80010000\n",
+        b"B 38941\nS 38941 Protected 80010000\n",
     );
     traces(
         &rt,
         &[0x0800_4000, 0x0800_4000],
-        b"B 38939\nS 38940 SlotBranch 80010004\n",
+        b"B 38941\nS 38942 SlotBranch 80010004\n",
     );
 }
 
@@ -286,7 +291,7 @@ fn enters_by_a_gate_in_another_segment(rt: HostRuntime) {
     assert_eq!(rt; host.sent(Out::Tty), b"A".as_slice());
     assert!(rt;
         host.sent(Out::Trace)
-            .starts_with(b"B 38939\nE 38945 00000020 A00000A0 A 0000003C\n")
+            .starts_with(b"B 38941\nE 38947 00000020 A00000A0 A 0000003C\n")
     );
     assert!(rt; host.sent(Out::Trace).ends_with(b" Exit 00000041\n"));
 }
@@ -297,7 +302,7 @@ fn runs_to_the_end_of_user_memory(rt: HostRuntime) {
     assert_eq!(rt; psxk(rt.alloc(), &RUN, &mut host), 1);
     assert_eq!(rt;
         host.sent(Out::Trace),
-        b"B 38939\nS 546843 UserFetch 80200000\n".as_slice()
+        b"B 38941\nS 546845 UserFetch 80200000\n".as_slice()
     );
     assert_eq!(rt;
         host.sent(Out::Report),

@@ -16,6 +16,7 @@ pub mod SameText
 pub mod PlacedBytes
 pub mod Windowed
 pub mod TextLines
+pub mod KernelRuns
 pub mod SameAnswer
 pub mod Statuses
 pub mod Answering

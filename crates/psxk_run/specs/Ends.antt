@@ -13,7 +13,7 @@ use Rattle.psxk_run.specs.Printing.{printing}
 use Rattle.psxk_run.specs.Refusals.{line_of, status_of}
 use Rattle.psxk_run.specs.Reports.{memory_line}
 use Rattle.psxk_run.specs.Sent.{GrewFront, OnlyReports, Says}
-use Rattle.psxk_run.specs.Top.{run_of, RunsProgram, MakesText}
+use Rattle.psxk_run.specs.Top.{run_of, IsKernelRun, RunsProgram, MakesText}
 use Rattle.psxk_run.specs.InPart.{HasFronts, ReportsFront, TextInPart}
 use Rattle.psxk_run.specs.Assembling.{assembling}
 use Rattle.psx_asm.specs.Assembly.{Placed}
@@ -34,6 +34,7 @@ pub record EndsRun (old new : Moment) (c : RunWords) (status : ℕ) : Type 0 whe
   pub given : GivesAll (IsLoaded old.holds) c inputs
   pub ran : RunsProgram old.sent new.sent old.sends new.sends (run_of inputs c.budget) status
   pub fronts : HasFronts old.sent new.sent (run_of inputs c.budget) ⊎ ReportsFront old.sent new.sent memory_line
+  pub kernel : IsKernelRun inputs (run_of inputs c.budget)
 
 -- a text that was made and sent
 pub record EndsText (old new : Moment) (out : Out) (text : List ℕ) (status : ℕ) : Type 0 where

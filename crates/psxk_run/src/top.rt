@@ -31,6 +31,7 @@ use crate::report::stop_line;
 use crate::run::{RunEnd, run_on};
 use kern_image::build;
 use psx_asm::Object;
+use kern_image::serving::serving;
 use psx_base::{Host, Out, Stop};
 use psx_board::Board;
 use psx_exe::Exe;
@@ -115,7 +116,10 @@ fn run_files<H: Host>(alloc: Global, host: &mut H, run: Run) -> u8
     ensures on { GoesOn H.holds H.load_faults H.send_faults host.old host.new }
 {
     match prepare(alloc, host, run) {
-        Ok(inputs) => run_program(alloc, host, inputs, run.budget),
+        Ok(inputs) => {
+            serving();
+            run_program(alloc, host, inputs, run.budget)
+        }
         Err(refusal) => refuse(host, refusal),
     }
 }
@@ -214,6 +218,7 @@ pub fn psxk<H: Host>(alloc: Global, words: &[&str], host: &mut H) -> u8
     ensures listed { IsStatus result }
 
     // With status 0 or 1 all files were loaded and accepted, and exactly the texts of their run, or the one text of the command, were sent.
+    // A run is one of the written kernel machine with its program: each step of the user, each stay in the kernel, its console bytes and the user's memory at its end.
     ensures done { (result ≡ 0) ⊎ (result ≡ 1) → IfCommand words.now (λ c. IsDone H.holds H.sent host.old host.new c result) }
 
     // The other statuses have their causes. What a host tells of its files decides, but for a load or a sending that failed and want of memory.

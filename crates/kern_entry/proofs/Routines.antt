@@ -1,0 +1,188 @@
+-- The stops, and the routines.
+use Rattle.psx_flow.proofs.Kit.{◌≡◌, ℕ, suc, ◌+◌, ◌*◌, ◌%◌, ◌^◌, ◌<◌, ◌≤◌, true, false, refl, sym, ap, ◌∙◌, subst, arith, Memory, word, Registers, Cop0, Run, Access, PortWrite, Meets, calls, kernel_words, fair, start, put_word, Sym, ended}
+use Rattle.std.proofs.Common.{Bool, zero, List, [], ◌∷◌, ◌/◌}
+use Rattle.std.specs.Prelude.{if◌then◌else◌, bit_and}
+use Rattle.psx_base.specs.declared.ports.TheConstants.{CONSOLE_DATA, HALT, HALT_A, HALT_B, HALT_C}
+use Rattle.psx_cpu.specs.Exceptions.{cause_of}
+use Rattle.psx_flow.specs.Told.{ports}
+use Rattle.psx_flow.proofs.Log.{KernelWord}
+use Rattle.kern_layout.specs.Fields.{Block}
+use Rattle.kern_layout.specs.Contexts.{saved, saved_sr_of}
+use Rattle.kern_entry.specs.declared.places.TheConstants.{UNSERVED, EXCEPTION, EXIT, DONE, BACK, PUTCHAR, SYSCALLS, LEAVE, BEHIND}
+use Rattle.kern_entry.specs.declared.calls.TheConstants.{EXIT_NODES, PUTCHAR_NODES}
+use Rattle.kern_entry.specs.declared.stops.TheConstants.{UNSERVED_NODES, EXCEPTION_NODES, DONE_NODES, BACK_NODES}
+use Rattle.kern_entry.specs.declared.sys.TheConstants.{SYSCALLS_NODES}
+use Rattle.kern_entry.specs.EntryWords.{tree}
+use Rattle.kern_entry.specs.Made.{Spared}
+use Rattle.kern_entry.proofs.WorkArea.{held, Holds, Entered, holds_on, applied_spared, spared_then, area_put, area_sr}
+use Rattle.kern_entry.proofs.Choosing.{code_is}
+
+-- the last access writes a code to the halt port, behind these to ports
+pub record Stops (code : ℕ) (writes : List Access) (m : Memory) (most : ℕ) (e : Run) : Type 0 where
+  pub rest : List Access
+  pub seen : e.seen ≡ PortWrite HALT code ∷ rest
+  pub told : ports rest ≡ writes
+  pub spared : Spared m e.bytes
+  pub within : e.passed ≤ most
+
+-- a routine comes with its answer to LEAVE
+pub record Answers (value : ℕ) (c : Registers) (pc : ℕ) (on : Bool) (m : Memory) (p : List Access) (most to : ℕ) (e : Run) : Type 0 where
+  pub to_is : to ≡ LEAVE
+  pub holds : Holds c pc on m p most e
+  pub answer : e.regs.r2 ≡ value
+
+-- the program's return comes to exit with its answer
+pub record Exits (value : ℕ) (c : Registers) (pc : ℕ) (on : Bool) (m : Memory) (p : List Access) (most to : ℕ) (e : Run) : Type 0 where
+  pub to_is : to ≡ EXIT
+  pub holds : Holds c pc on m p most e
+  pub value_is : e.regs.r4 ≡ value
+
+low_byte : (x : ℕ) → x * 2 ^ 24 % 2 ^ 32 / 2 ^ 24 ≡ x % 2 ^ 8
+low_byte x = omega arith
+
+pub exit_meets : (c : Registers) (pc : ℕ) (on : Bool) (m : Memory) (p : List Access) (most more v : ℕ) (s : Run) → Holds c pc on m p most s → s.regs.r4 ≡ v → most + 10 ≤ more
+    → Meets kernel_words (calls kernel_words []) (tree EXIT_NODES) EXIT (λ e. Stops 1 (PortWrite HALT_A v ∷ p) m more e) (λ _ _. ⊥) s
+exit_meets c pc on m p most more v s h e few =
+    let within = h.within in
+    start (calls kernel_words []) (fair kernel_words []) (tree EXIT_NODES) EXIT (λ e. Stops 1 (PortWrite HALT_A v ∷ p) m more e) (λ _ _. ⊥) s
+    (record { rest = _; seen = refl; told = (λ i. PortWrite HALT_A (e i) ∷ h.ports i); spared = h.spared; within = omega arith })
+
+module _ (c : Registers) (z : Cop0) (on : Bool) (m : Memory) (p : List Access) (most more : ℕ) (s : Run) (h : Entered c z on m p most s) (few : most + 30 ≤ more) where
+  pub done_meets : Meets kernel_words (calls kernel_words []) (tree DONE_NODES) DONE (λ _. ⊥) (λ to e. Exits c.r2 c z.epc on m p more to e) s
+  done_meets =
+      let within = h.holds.within in
+      start (calls kernel_words []) (fair kernel_words []) (tree DONE_NODES) DONE (λ _. ⊥) (λ to e. Exits c.r2 c z.epc on m p more to e) s
+      (record { to_is = refl; holds = holds_on c z.epc on m p most more s h.holds _ _ _ _ refl (omega arith); value_is = h.r2 })
+
+  pub back_meets : Meets kernel_words (calls kernel_words []) (tree BACK_NODES) BACK (λ e. Stops 7 (PortWrite HALT_A c.r31 ∷ p) m more e) (λ _ _. ⊥) s
+  back_meets =
+      let within = h.holds.within in
+      start (calls kernel_words []) (fair kernel_words []) (tree BACK_NODES) BACK (λ e. Stops 7 (PortWrite HALT_A c.r31 ∷ p) m more e) (λ _ _. ⊥) s
+      (record { rest = _; seen = refl; told = (λ i. PortWrite HALT_A (h.r31 i) ∷ h.holds.ports i); spared = h.holds.spared; within = omega arith })
+
+  pub unserved_meets : (table : ℕ) → s.regs.r10 ≡ table
+      → Meets kernel_words (calls kernel_words []) (tree UNSERVED_NODES) UNSERVED (λ e. Stops 3 (PortWrite HALT_C c.r31 ∷ PortWrite HALT_B c.r9 ∷ PortWrite HALT_A table ∷ p) m more e) (λ _ _. ⊥) s
+  unserved_meets table e =
+      let within = h.holds.within in
+      start (calls kernel_words []) (fair kernel_words []) (tree UNSERVED_NODES) UNSERVED (λ e. Stops 3 (PortWrite HALT_C c.r31 ∷ PortWrite HALT_B c.r9 ∷ PortWrite HALT_A table ∷ p) m more e) (λ _ _. ⊥) s
+      (record { rest = _; seen = refl; told = (λ i. PortWrite HALT_C (h.r31 i) ∷ PortWrite HALT_B (h.r9 i) ∷ PortWrite HALT_A (e i) ∷ h.holds.ports i); spared = h.holds.spared; within = omega arith })
+
+  pub exception_meets : (code : ℕ) (slot : Bool) → z.cause ≡ cause_of code slot → code < 32
+      → Meets kernel_words (calls kernel_words []) (tree EXCEPTION_NODES) EXCEPTION (λ e. Stops 2 (PortWrite HALT_B z.epc ∷ PortWrite HALT_A code ∷ p) m more e) (λ _ _. ⊥) s
+  exception_meets code slot cause small =
+      let within = h.holds.within in
+      let coded : (line : Bool) → (s.cop0.cause + (if line then 2 ^ 10 else 0)) * 2 ^ 25 % 2 ^ 32 / 2 ^ 27 ≡ code = λ line.
+      ap (λ x. (x.cause + (if line then 2 ^ 10 else 0)) * 2 ^ 25 % 2 ^ 32 / 2 ^ 27) h.cop0 ∙ ap (λ x. (x + (if line then 2 ^ 10 else 0)) * 2 ^ 25 % 2 ^ 32 / 2 ^ 27) cause ∙ code_is code slot line small in
+      start (calls kernel_words []) (fair kernel_words []) (tree EXCEPTION_NODES) EXCEPTION (λ e. Stops 2 (PortWrite HALT_B z.epc ∷ PortWrite HALT_A code ∷ p) m more e) (λ _ _. ⊥) s
+      (λ line. record { rest = _; seen = refl; told = (λ i. PortWrite HALT_B ((h.cop0 i).epc) ∷ PortWrite HALT_A (coded line i) ∷ h.holds.ports i); spared = h.holds.spared; within = omega arith })
+
+  pub putchar_meets : Meets kernel_words (calls kernel_words []) (tree PUTCHAR_NODES) PUTCHAR (λ _. ⊥) (λ to e. Answers (c.r4 % 2 ^ 8) c z.epc on m (PortWrite CONSOLE_DATA c.r4 ∷ p) more to e) s
+  putchar_meets =
+      let within = h.holds.within in
+      start (calls kernel_words []) (fair kernel_words []) (tree PUTCHAR_NODES) PUTCHAR (λ _. ⊥) (λ to e. Answers (c.r4 % 2 ^ 8) c z.epc on m (PortWrite CONSOLE_DATA c.r4 ∷ p) more to e) s
+      (record {
+        to_is = refl;
+        holds = record { area = h.holds.area; spared = h.holds.spared; ports = (λ i. PortWrite CONSOLE_DATA (h.r4 i) ∷ h.holds.ports i); within = omega arith };
+        answer = low_byte s.regs.r4 ∙ ap (λ x. x % 2 ^ 8) h.r4;
+      })
+
+-- ---- the SYSCALLs, by r4
+
+-- 1 where interrupts were on
+abbrev pub was_on : Bool → ℕ
+was_on on = if on then 1 else 0
+
+abbrev pub SysGoes : (number : ℕ) (c : Registers) (epc : ℕ) (on : Bool) (m : Memory) (p : List Access) (most to : ℕ) (e : Run) → Type 0
+SysGoes zero c epc on m p most to e = (to ≡ BEHIND) × Holds c epc on m p most e
+SysGoes (suc zero) c epc on m p most to e = (to ≡ BEHIND) × Holds (record c { r2 = was_on on }) epc false m p most e
+SysGoes (suc (suc zero)) c epc on m p most to e = (to ≡ BEHIND) × Holds c epc true m p most e
+SysGoes (suc (suc (suc n))) c epc on m p most to e = ⊥
+
+abbrev pub SysStops : (number : ℕ) (epc : ℕ) (m : Memory) (p : List Access) (most : ℕ) (e : Run) → Type 0
+SysStops (suc (suc (suc n))) epc m p most e = Stops 3 (PortWrite HALT_C epc ∷ PortWrite HALT_B (suc (suc (suc n))) ∷ PortWrite HALT_A 3 ∷ p) m most e
+SysStops _ epc m p most e = ⊥
+
+sr_bit : (on : Bool) → bit_and (saved_sr_of on / 2 ^ 2) 1 ≡ was_on on
+sr_bit true = refl
+sr_bit false = refl
+
+not_both : (x a b : ℕ) → x ≡ a → x ≡ b → (a ≡ b → ⊥) → ⊥
+not_both x a b e f ne = ne (sym e ∙ f)
+
+module _ (c : Registers) (z : Cop0) (on : Bool) (m : Memory) (p : List Access) (most more : ℕ) (s : Run) (h : Entered c z on m p most s) (few : most + 30 ≤ more) where
+  abbrev SysMeets : ℕ → Type 0
+  SysMeets n = Meets kernel_words (calls kernel_words []) (tree SYSCALLS_NODES) SYSCALLS (λ e. SysStops n z.epc m p more e) (λ to e. SysGoes n c z.epc on m p more to e) s
+
+  abbrev SysAsks : ℕ → Type 0
+  SysAsks n = Sym (calls kernel_words []) (tree SYSCALLS_NODES) SYSCALLS (ended (λ e. SysStops n z.epc m p more e)) (λ to e. SysGoes n c z.epc on m p more to e) s.regs s.cop0 s.bytes [] s.seen s.passed
+
+  sys_start : (n : ℕ) → SysAsks n → SysMeets n
+  sys_start n = start (calls kernel_words []) (fair kernel_words []) (tree SYSCALLS_NODES) SYSCALLS (λ e. SysStops n z.epc m p more e) (λ to e. SysGoes n c z.epc on m p more to e) s
+
+  -- SYSCALL 1: the answer and SR are stored
+  off_area : (x : ℕ) → x ≡ was_on on → Block (word (put_word (put_word s.bytes 0xEB10 x) 0xEB94 0x400)) 0xEB00 (saved (held (record c { r2 = was_on on }) z.epc false))
+  off_area x e =
+      let n : Memory = put_word s.bytes 0xEB10 x in
+      let P : ℕ → Type 0 = λ v. Block (word (put_word n 0xEB94 0x400)) 0xEB00 (saved (held (record c { r2 = v }) z.epc false)) in
+      subst P e (area_put n 0x94 0x400 (saved (held (record c { r2 = x }) z.epc on)) _ refl refl refl (area_put s.bytes 0x10 x (saved (held c z.epc on)) _ refl refl refl h.holds.area))
+
+  pub sys_meets : (n : ℕ) → s.regs.r4 ≡ n → SysMeets n
+  sys_meets zero e =
+      let within = h.holds.within in
+      sys_start zero (λ _. (refl, holds_on c z.epc on m p most more s h.holds _ _ _ _ refl (omega arith)), λ ne. absurd (ne e))
+  sys_meets (suc zero) e =
+      let within = h.holds.within in
+      let x : ℕ = bit_and (word s.bytes 0xEB94 / 2 ^ 2) 1 in
+      sys_start 1 (
+        λ y. absurd (omega (arith, e, y)),
+        λ _. (
+          λ _. (
+            refl,
+            record {
+              area = off_area x (ap (λ v. bit_and (v / 2 ^ 2) 1) (area_sr s.bytes c z.epc on h.holds.area) ∙ sr_bit on);
+              spared = spared_then m s.bytes _ h.holds.spared (applied_spared s.bytes (KernelWord 0xEB94 0x400 ∷ KernelWord 0xEB10 x ∷ []) refl);
+              ports = h.holds.ports;
+              within = omega arith;
+            },
+          ),
+          λ ne. absurd (ne e),
+        ),
+      )
+  sys_meets (suc (suc zero)) e =
+      let within = h.holds.within in
+      sys_start 2 (
+        λ y. absurd (omega (arith, e, y)),
+        λ _. (
+          λ y. absurd (omega (arith, e, y)),
+          λ _. (
+            λ _. (
+              refl,
+              record {
+                area = area_put s.bytes 0x94 0x404 (saved (held c z.epc on)) _ refl refl refl h.holds.area;
+                spared = spared_then m s.bytes _ h.holds.spared (applied_spared s.bytes (KernelWord 0xEB94 0x404 ∷ []) refl);
+                ports = h.holds.ports;
+                within = omega arith;
+              },
+            ),
+            λ ne. absurd (ne e),
+          ),
+        ),
+      )
+  sys_meets (suc (suc (suc n))) e =
+      let within = h.holds.within in
+      sys_start (suc (suc (suc n))) (
+        λ y. absurd (omega (arith, e, y)),
+        λ _. (
+          λ y. absurd (omega (arith, e, y)),
+          λ _. (
+            λ y. absurd (omega (arith, e, y)),
+            λ _. record {
+              rest = _;
+              seen = refl;
+              told = (λ i. PortWrite HALT_C ((h.cop0 i).epc) ∷ PortWrite HALT_B (e i) ∷ PortWrite HALT_A 3 ∷ h.holds.ports i);
+              spared = h.holds.spared;
+              within = omega arith;
+            },
+          ),
+        ),
+      )

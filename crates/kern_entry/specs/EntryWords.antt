@@ -1,0 +1,78 @@
+-- The words of the entry: its listings, lowered, the vector, the gates, its table entries, and the two words that leave the kernel.
+use Rattle.std.specs.Prelude.{ℕ, ◌+◌, ◌*◌, ◌%◌, ◌^◌, List, [], ◌∷◌, ◌++◌, unwrap_or}
+use Rattle.psx_ins.specs.declared.reg.Reg.{Reg}
+use Rattle.psx_ins.specs.declared.ins.Ins.TheVariants.{SYSCALL, JR, RFE}
+use Rattle.psx_ins.specs.Words.{word}
+use Rattle.psx_flow.specs.declared.node.Node.{Node}
+use Rattle.psx_flow.specs.declared.listings.TheConstants.{READ_BYTE, WRITE_BYTE, READ_WORD, WRITE_WORD}
+use Rattle.psx_flow.specs.Tree.{Tree, Stop}
+use Rattle.psx_flow.specs.Reading.{tree_of}
+use Rattle.psx_flow.specs.Lowered.{lowered}
+use Rattle.kern_layout.specs.declared.ranges.TheConstants.{GATE_A, GATE_B, GATE_C, GATE_DONE, GATE_BACK, TABLE_A, TABLE_B}
+use Rattle.kern_entry.specs.declared.places.TheConstants as place
+use Rattle.kern_entry.specs.declared.save.TheConstants.{VECTOR_NODES, SAVE_NODES, CAUSES_NODES}
+use Rattle.kern_entry.specs.declared.calls.TheConstants.{CALL_A_NODES, CALL_B_NODES, CALL_C_NODES, EXIT_NODES, PUTCHAR_NODES}
+use Rattle.kern_entry.specs.declared.stops.TheConstants.{UNSERVED_NODES, EXCEPTION_NODES, DONE_NODES, BACK_NODES}
+use Rattle.kern_entry.specs.declared.sys.TheConstants.{SYSCALLS_NODES}
+use Rattle.kern_entry.specs.declared.leave.TheConstants.{LEAVE_NODES, BEHIND_NODES, RESUME_NODES, RETURN, WORK_NODES}
+use Rattle.kern_entry.specs.Words.{overlaid}
+
+-- the tree that nodes spell
+abbrev pub tree : List Node → Tree
+tree nodes = unwrap_or (tree_of nodes) Stop
+
+-- a listing that runs at an address of the cached segment stands at the physical one
+abbrev pub listing : (at : ℕ) → List Node → ℕ × List ℕ
+listing at nodes = (at % 2 ^ 29, lowered (tree nodes) at)
+
+-- from the vector to the routine
+abbrev pub entry_pieces : List (ℕ × List ℕ)
+entry_pieces =
+    listing place.SAVE SAVE_NODES ∷ listing place.CAUSES CAUSES_NODES ∷ listing place.CALL_A CALL_A_NODES ∷ listing place.CALL_B CALL_B_NODES ∷ listing place.CALL_C CALL_C_NODES
+    ∷ listing place.UNSERVED UNSERVED_NODES ∷ listing place.EXCEPTION EXCEPTION_NODES ∷ []
+
+-- jr k0, with rfe in its slot
+abbrev pub k0 : Reg
+k0 = record { 0 = 26 }
+
+abbrev pub return_words : List ℕ
+return_words = word (JR k0) ∷ word RFE ∷ []
+
+-- back to the program
+abbrev pub leave_pieces : List (ℕ × List ℕ)
+leave_pieces =
+    listing place.LEAVE LEAVE_NODES ∷ listing place.BEHIND BEHIND_NODES ∷ listing place.RESUME RESUME_NODES ∷ (RETURN % 2 ^ 29, return_words)
+    ∷ listing place.WORK WORK_NODES ∷ []
+
+-- the routines
+abbrev pub routine_pieces : List (ℕ × List ℕ)
+routine_pieces =
+    listing place.EXIT EXIT_NODES ∷ listing place.DONE DONE_NODES ∷ listing place.BACK BACK_NODES ∷ listing place.PUTCHAR PUTCHAR_NODES ∷ listing place.SYSCALLS SYSCALLS_NODES ∷ []
+
+-- the four accesses to user memory
+abbrev pub tested_pieces : List (ℕ × List ℕ)
+tested_pieces =
+    listing place.READ_BYTE READ_BYTE ∷ listing place.WRITE_BYTE WRITE_BYTE ∷ listing place.READ_WORD READ_WORD ∷ listing place.WRITE_WORD WRITE_WORD ∷ []
+
+-- the vector, and a SYSCALL at each gate
+abbrev pub gate : List ℕ
+gate = word (SYSCALL 0) ∷ []
+
+abbrev pub vector_pieces : List (ℕ × List ℕ)
+vector_pieces = listing place.VECTOR VECTOR_NODES ∷ (GATE_A.from, gate) ∷ (GATE_B.from, gate) ∷ (GATE_C.from, gate) ∷ (GATE_DONE.from, gate) ∷ (GATE_BACK.from, gate) ∷ []
+
+-- an entry of a table: the routine's address
+abbrev pub entry : (table number at : ℕ) → ℕ × List ℕ
+entry table number at = (table + 4 * number, at ∷ [])
+
+abbrev pub table_pieces : List (ℕ × List ℕ)
+table_pieces =
+    entry TABLE_A.from 0x06 place.EXIT ∷ entry TABLE_A.from 0x3A place.EXIT ∷ entry TABLE_A.from 0x3C place.PUTCHAR ∷ entry TABLE_B.from 0x38 place.EXIT ∷ entry TABLE_B.from 0x3D place.PUTCHAR ∷ []
+
+-- all of them, in the order of their addresses
+abbrev pub pieces : List (ℕ × List ℕ)
+pieces = vector_pieces ++ (table_pieces ++ (entry_pieces ++ (leave_pieces ++ (routine_pieces ++ tested_pieces))))
+
+-- the word at an address of the block behind `place`, from the block before: other words stay
+unfoldable pub entry_word : (ℕ → ℕ) → ℕ → ℕ
+entry_word f = overlaid pieces f

@@ -1,0 +1,18 @@
+//! The entry into the kernel and the way back: the exception vector, the gates, what saves a context and takes it up, the choice of the routine, and the first calls.
+//! All of it is listings at the public addresses of places.rt, but for the two words that leave the kernel.
+#![tactic(auto)]
+
+pub mod area;
+pub mod calls;
+pub mod law;
+pub mod leave;
+pub mod places;
+mod placing;
+pub mod save;
+pub mod stepwise;
+pub mod stops;
+pub mod sys;
+#[cfg(test)]
+mod tests;
+
+pub use placing::place;
