@@ -1,5 +1,5 @@
 -- The bytes of a statement at an address, once each name is known.
-use Rattle.std.specs.Prelude.{ℕ, ◌+◌, ◌-◌, ◌*◌, ◌/◌, ◌%◌, ◌^◌, ℤ, pos, ◌+ℤ◌, nat_lt, nat_le, ◌&&◌, ◌==◌, List, [], ◌∷◌, ◌++◌, replicate, Option, Some, None, Result, Ok, Err, if◌then◌else◌}
+use Rattle.std.specs.Prelude.{ℕ, ◌+◌, ◌-◌, ◌*◌, ◌/◌, ◌%◌, ◌^◌, ℤ, pos, ◌+ℤ◌, nat_lt, nat_le, ◌&&◌, ◌==◌, List, [], ◌∷◌, ◌++◌, replicate, is_some, Option, Some, None, Result, Ok, Err, if◌then◌else◌}
 use Rattle.psx_ins.specs.declared.reg.Reg.{Reg}
 use Rattle.psx_ins.specs.declared.ins.Ins.{Ins}
 use Rattle.psx_ins.specs.declared.ins.Ins.TheVariants.{LUI, ORI}
@@ -29,13 +29,17 @@ resolved known (Sum w plus) = do
   n ← number_for w (known w)
   Ok (n +ℤ plus)
 
--- the numbers that values stand for, or the first name that there isn't
-abbrev pub all_resolved : Known → List Value → Result (List ℤ) AsmFault
-all_resolved known [] = Ok []
-all_resolved known (v ∷ vs) = do
+-- the low 32 bits of the number that a value stands for
+abbrev pub resolved_word : Known → Value → Result ℕ AsmFault
+resolved_word known v = do
   n ← resolved known v
-  ns ← all_resolved known vs
-  Ok (n ∷ ns)
+  Ok (low_word n)
+
+-- the first name of values that there isn't
+abbrev pub missing : Known → List Value → Option (List ℕ)
+missing known [] = None
+missing known (Plain n ∷ vs) = missing known vs
+missing known (Sum w plus ∷ vs) = if is_some (known w) then missing known vs else Some w
 
 -- something at an address that is a multiple
 abbrev pub aligned : {A : Type 0} → ℕ → ℕ → Result A AsmFault → Result A AsmFault
@@ -79,41 +83,50 @@ element Byte n = either_sign (2 ^ 8) n
 element Half n = either_sign (2 ^ 16) n
 element Word n = Some (low_word n)
 
+-- the bits of a value of a list, once its name is known
+abbrev pub value_bits : Known → Width → Value → Result ℕ AsmFault
+value_bits known width v = do
+  n ← resolved known v
+  fitting (low_word n) (element width n)
+
 -- the bytes of a list's values, or the first value that doesn't fit
-abbrev pub elements : Width → List ℤ → Result (List ℕ) AsmFault
-elements width [] = Ok []
-elements width (n ∷ ns) = do
-  bits ← fitting (low_word n) (element width n)
-  more ← elements width ns
+abbrev pub elements : Known → Width → List Value → Result (List ℕ) AsmFault
+elements known width [] = Ok []
+elements known width (v ∷ vs) = do
+  bits ← value_bits known width v
+  more ← elements known width vs
   Ok (bytes_of width bits ++ more)
 
 -- a branch at an address
 unfoldable pub of_branch : Known → ℕ → Ins → Value → Result (List ℕ) AsmFault
 of_branch known at ins v = do
-  n ← resolved known v
+  target ← resolved_word known v
   aligned 4 at (do
-    bits ← fitting (low_word n) (branch_bits (at + 4) (low_word n))
+    bits ← fitting target (branch_bits (at + 4) target)
     Ok (code_of (branch_to ins bits)))
 
 -- a jump at an address
 unfoldable pub of_jump : Known → ℕ → Ins → Value → Result (List ℕ) AsmFault
 of_jump known at ins v = do
-  n ← resolved known v
+  target ← resolved_word known v
   aligned 4 at (do
-    bits ← fitting (low_word n) (jump_bits (at + 4) (low_word n))
+    bits ← fitting target (jump_bits (at + 4) target)
     Ok (code_of (jump_to ins bits)))
 
 -- the instructions at an address by which a register gets a value
 unfoldable pub of_address : Known → ℕ → Reg → Value → Result (List ℕ) AsmFault
 of_address known at t v = do
-  n ← resolved known v
-  aligned 4 at (Ok (address_code t (low_word n)))
+  w ← resolved_word known v
+  aligned 4 at (Ok (address_code t w))
+
+-- values at an address, or the first name that there isn't
+abbrev pub of_named : Known → ℕ → Width → List Value → Option (List ℕ) → Result (List ℕ) AsmFault
+of_named known at width vs (Some w) = Err (NoLabel w)
+of_named known at width vs None = aligned (width_of width) at (elements known width vs)
 
 -- values at an address
-unfoldable pub of_values : Known → ℕ → Width → List Value → Result (List ℕ) AsmFault
-of_values known at width vs = do
-  ns ← all_resolved known vs
-  aligned (width_of width) at (elements width ns)
+abbrev pub of_values : Known → ℕ → Width → List Value → Result (List ℕ) AsmFault
+of_values known at width vs = of_named known at width vs (missing known vs)
 
 -- the bytes of a statement at an address, or its first fault but for the window's
 abbrev pub encoded : Known → ℕ → Statement → Result (List ℕ) AsmFault

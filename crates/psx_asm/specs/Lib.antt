@@ -14,3 +14,4 @@ pub mod Names
 pub mod Failing
 pub mod Walking
 pub mod Output
+pub mod Rounds

@@ -1,8 +1,13 @@
 //! A text assembled.
-ghost use Rattle.std.specs.Prelude.{◌≡◌, ◌⊎◌, ◌≤◌, ◌<◌, ◌+◌, Option, Ok, Err, Result, IfOk, IfErr, MatchResult, List, length, drop};
+ghost use Rattle.std.specs.Prelude.{◌≡◌, ◌⊎◌, ◌≤◌, ◌==◌, Option, Ok, Err, Result, IfOk, IfErr, MatchResult, List, [], length, drop, map, codes};
 ghost use Rattle.std.specs.List.{before_first};
-ghost use Rattle.psx_asm.specs.declared.fault.AsmError.{AsmError};
-ghost use Rattle.psx_asm.specs.Assembly.{IsAssemblyOf, Placed, placed_by, HasOneAnswer};
+ghost use Rattle.psx_asm.specs.declared.fault.AsmError.{AsmError as Fault};
+ghost use Rattle.psx_asm.specs.Piece.{Piece};
+ghost use Rattle.psx_asm.specs.Names.{names};
+ghost use Rattle.psx_asm.specs.Walking.{shown_item};
+ghost use Rattle.psx_asm.specs.Placing.{bytes_of_parts};
+ghost use Rattle.psx_asm.specs.Rounds.{error_at, GivesRound, GivesPlaced, placed_items};
+ghost use Rattle.psx_asm.specs.Assembly.{lines_of, AreReadAs, first_round, label_address, IsAssemblyOf, Placed, placed_by, HasOneAnswer};
 
 use crate::fault::{AsmError, Failure, LONGEST};
 use crate::line::{Item, Line, Walk, line_after, pass};
@@ -26,7 +31,9 @@ fn line_at(text: &[u8], from: usize) -> &[u8]
 }
 
 // The fault of a line.
-fn at_line(number: u32, failure: Failure) -> AsmError {
+fn at_line(number: u32, failure: Failure) -> AsmError
+    ensures { result ≡ error_at number failure }
+{
     match failure {
         Failure::Memory => AsmError::Memory,
         Failure::Fault(fault) => AsmError::Line {
@@ -46,6 +53,7 @@ struct Round<'a> {
 // The first round.
 fn first_round(alloc: Global, text: &[u8]) -> Result<Round<'_>, AsmError>
     requires { length text.now ≤ 4194304 }
+    ensures { (readings : List (Option (List Piece))) → AreReadAs (lines_of text.now) readings → GivesRound result (first_round [] readings) }
 {
     let mut walk = Walk::new(alloc);
     let mut items = Vec::new(alloc);
@@ -72,7 +80,9 @@ fn second_round(
     known: &Symbols<'_>,
     window: Window,
     items: &[Item<'_>],
-) -> Result<Parts, AsmError> {
+) -> Result<Parts, AsmError>
+    ensures { GivesPlaced bytes_of_parts result (placed_items (names known.now) window.from window.to [] (map shown_item items.now)) }
+{
     let mut taken = HashSet::new(alloc);
     let mut output = Output::new(alloc);
     for item in items {
@@ -96,17 +106,28 @@ fn second_round(
 }
 
 // The address of the label `start`.
-fn start_of(known: &Symbols<'_>) -> Option<u32> {
+fn start_of(known: &Symbols<'_>) -> Option<u32>
+    ensures { result ≡ label_address (names known.now (codes "start")) }
+{
     match known.get(b"start") {
         Some(Symbol::Address(at)) => Some(at),
         _ => None,
     }
 }
 
+/// The law of assembly: each text gives one thing in a window, or has one first fault. The call does nothing.
+pub fn object_or_fault(text: &[u8], from: u32, to: u32)
+    ensures { HasOneAnswer text.now from to }
+{}
+
 /// The bytes that a text of assembly language places in the window from one address to another, both within it, and the address of its
 /// label `start`; or the text's first fault. Where memory is short, `Memory` comes in their place.
 pub fn assemble(alloc: Global, text: &[u8], from: u32, to: u32) -> Result<Object, AsmError>
     requires { from ≤ to }
+    ensures object { IfOk result (λ o. IsAssemblyOf text.now from to (Ok (placed_by o))) }
+    ensures fault { IfErr result (λ e. (e ≡ AsmError.Memory) ⊎ IsAssemblyOf text.now from to (Err e)) }
+    ensures only { (answer : Result Placed Fault) → IsAssemblyOf text.now from to answer
+        → MatchResult result (λ o. answer ≡ Ok (placed_by o)) (λ e. (e ≡ AsmError.Memory) ⊎ (answer ≡ Err e)) }
 {
     if text.len() > LONGEST {
         return Err(AsmError::TooLong { limit: LONGEST });

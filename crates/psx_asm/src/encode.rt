@@ -1,11 +1,11 @@
 //! The bytes of a statement at an address, once each name is known.
-ghost use Rattle.std.specs.Prelude.{◌≡◌, ◌≤◌, ◌<◌, ◌^◌, ◌++◌, List, ℤ, None, replicate, map, IfOk, OnOk, IfSome};
-ghost use Rattle.psx_ins.specs.Words.{word, fits_fields};
+ghost use Rattle.std.specs.Prelude.{◌≡◌, ◌<◌, ◌%◌, ◌^◌, ◌++◌, Ok, replicate, IfOk, OnOk, IfSome};
+ghost use Rattle.psx_ins.specs.Words.{fits_fields};
 ghost use Rattle.psx_asm.specs.Failing.{Gives, IsNoLabel};
 ghost use Rattle.psx_asm.specs.Names.{names};
-ghost use Rattle.psx_asm.specs.Encoding.{number_for, resolved, all_resolved, aligned, bytes_of, code_of, branch_bits, jump_bits, address_code, element, elements, encoded, of_branch, of_jump, of_address, of_values};
+ghost use Rattle.psx_asm.specs.Encoding.{resolved, resolved_word, missing, aligned, bytes_of, code_of, branch_bits, jump_bits, address_code, element, value_bits, elements, encoded, of_branch, of_jump, of_address, of_values};
 ghost use Rattle.psx_asm.specs.Numbers.{low_word};
-ghost use Rattle.psx_asm.specs.Shown.{shown_value, shown_values, shown_statement};
+ghost use Rattle.psx_asm.specs.Shown.{shown_value, shown_values, shown_label, shown_statement};
 
 use crate::fault::{AsmFault, Failure};
 use crate::line::{padding, width_of};
@@ -51,25 +51,32 @@ fn resolved(alloc: Global, known: &Symbols<'_>, value: Value<'_>) -> Result<i128
     }
 }
 
-// The numbers that values stand for, or the first name that there isn't.
-fn all_resolved(
-    alloc: Global,
-    known: &Symbols<'_>,
-    values: &[Value<'_>],
-) -> Result<Vec<i128>, Failure>
-    ensures { Gives (λ v. v.items) result (all_resolved (names known.now) (shown_values values.now)) }
+// The low 32 bits of the number that a value stands for.
+fn resolved_word(alloc: Global, known: &Symbols<'_>, value: Value<'_>) -> Result<u32, Failure>
+    ensures { Gives (λ w. w) result (resolved_word (names known.now) (shown_value value.entry)) }
 {
-    let mut found = Vec::new(alloc);
+    Ok(low_word(resolved(alloc, known, value)?))
+}
+
+// The first name of values that there isn't.
+fn missing<'a>(known: &Symbols<'_>, values: &[Value<'a>]) -> Option<&'a [u8]>
+    ensures { shown_label result ≡ missing (names known.now) (shown_values values.now) }
+{
     for value in values {
-        found.push(resolved(alloc, known, *value)?)?;
+        if let Value::Sum(name, _) = value {
+            if known.get(name).is_none() {
+                return Some(*name);
+            }
+        }
     }
-    Ok(found)
+    None
 }
 
 // An address that is a multiple.
 fn aligned(multiple: u32, at: u32) -> Result<(), Failure>
     requires { 0 < multiple }
-    ensures { Gives (λ _. at) result (aligned multiple at (Ok at)) }
+    ensures given { Gives (λ _. at) result (aligned multiple at (Ok at)) }
+    ensures multiple { OnOk result (at % multiple ≡ 0) }
 {
     if at % multiple == 0 {
         return Ok(());
@@ -114,6 +121,7 @@ fn pair_of(alloc: Global, first: Code, second: Code) -> Result<Vec<u8>, AllocErr
 
 // The 16 bits of a branch from its slot to a target.
 fn branch_bits(slot: u64, target: u32) -> Option<u16>
+    requires { slot % 4 ≡ 0 }
     ensures { result ≡ branch_bits slot target }
 {
     let target = target as u64;
@@ -154,7 +162,7 @@ fn of_branch(
 ) -> Result<Vec<u8>, Failure>
     ensures { Gives (λ v. v.items) result (of_branch (names known.now) at code.ins (shown_value value.entry)) }
 {
-    let target = low_word(resolved(alloc, known, value)?);
+    let target = resolved_word(alloc, known, value)?;
     aligned(4, at)?;
     match branch_bits(at as u64 + 4, target) {
         Some(bits) => {
@@ -176,7 +184,7 @@ fn of_jump(
 ) -> Result<Vec<u8>, Failure>
     ensures { Gives (λ v. v.items) result (of_jump (names known.now) at code.ins (shown_value value.entry)) }
 {
-    let target = low_word(resolved(alloc, known, value)?);
+    let target = resolved_word(alloc, known, value)?;
     aligned(4, at)?;
     match jump_bits(at as u64 + 4, target) {
         Some(bits) => {
@@ -198,7 +206,7 @@ fn of_address(
 ) -> Result<Vec<u8>, Failure>
     ensures { Gives (λ v. v.items) result (of_address (names known.now) at general.reg (shown_value value.entry)) }
 {
-    let word = low_word(resolved(alloc, known, value)?);
+    let word = resolved_word(alloc, known, value)?;
     aligned(4, at)?;
     let t = general.reg;
     let imm = (word / 65_536) as u16;
@@ -219,22 +227,40 @@ fn element(width: Width, number: i128) -> Option<u32>
     }
 }
 
+// The bits of a value of a list, once its name is known.
+fn value_bits(
+    alloc: Global,
+    known: &Symbols<'_>,
+    width: Width,
+    value: Value<'_>,
+) -> Result<u32, Failure>
+    ensures { Gives (λ n. n) result (value_bits (names known.now) width (shown_value value.entry)) }
+{
+    let number = resolved(alloc, known, value)?;
+    match element(width, number) {
+        Some(bits) => Ok(bits),
+        None => Err(range(low_word(number))),
+    }
+}
+
 // The bytes of a list's values, or the first value that doesn't fit.
-fn elements(alloc: Global, width: Width, numbers: &[i128]) -> Result<Vec<u8>, Failure>
-    ensures { Gives (λ v. v.items) result (elements width numbers.now) }
+fn elements(
+    alloc: Global,
+    known: &Symbols<'_>,
+    width: Width,
+    values: &[Value<'_>],
+) -> Result<Vec<u8>, Failure>
+    ensures { Gives (λ v. v.items) result (elements (names known.now) width (shown_values values.now)) }
 {
     let mut bytes = Vec::new(alloc);
-    for number in numbers {
-        let Some(bits) = element(width, *number) else {
-            return Err(range(low_word(*number)));
-        };
+    for value in values {
+        let bits = value_bits(alloc, known, width, *value)?;
         put(&mut bytes, width, bits)?;
     }
     Ok(bytes)
 }
 
 // Values at an address.
-#[tactic(auto, unfolding(crate::specs::Encoding::of_values))]
 fn of_values(
     alloc: Global,
     known: &Symbols<'_>,
@@ -244,9 +270,11 @@ fn of_values(
 ) -> Result<Vec<u8>, Failure>
     ensures { Gives (λ v. v.items) result (of_values (names known.now) at width (shown_values values.now)) }
 {
-    let numbers = all_resolved(alloc, known, values)?;
+    if let Some(name) = missing(known, values) {
+        return Err(no_label(alloc, name));
+    }
     aligned(width_of(width), at)?;
-    elements(alloc, width, numbers.as_slice())
+    elements(alloc, known, width, values)
 }
 
 /// So many zeros.

@@ -23,6 +23,6 @@ mod table;
 #[cfg(test)]
 mod tests;
 
-pub use assembly::assemble;
+pub use assembly::{assemble, object_or_fault};
 pub use fault::{AsmError, AsmFault};
 pub use object::{Bytes, Name, Object, Part, Parts};

@@ -1,9 +1,9 @@
 //! Lines: a label and a statement, which names they give, and where each line stands.
-ghost use Rattle.std.specs.Prelude.{◌≡◌, ◌++◌, ◌∷◌, [], ℕ, List, Ok, Option, MatchResult, OnOk, IfOk, length, option_map};
+ghost use Rattle.std.specs.Prelude.{◌≡◌, ◌<◌, ◌+◌, ◌^◌, ◌++◌, ◌∷◌, [], ℕ, List, Ok, Option, OnOk, map, option_map};
 ghost use Rattle.psx_asm.specs.Failing.{Gives, IsTwice};
 ghost use Rattle.psx_asm.specs.Names.{names};
 ghost use Rattle.psx_asm.specs.Piece.{Piece as Words, IsReadAs};
-ghost use Rattle.psx_asm.specs.Line.{Line as Shown, statement_of, with_operands, split_label, read_line, is_label, checked_label, checked_name, line_after, size, after, named, width_of, padding};
+ghost use Rattle.psx_asm.specs.Line.{Line as Shown, statement_of, with_operands, split_label, read_line, is_label, checked_label, checked_name, line_after, known, size, after, named, width_of, padding};
 ghost use Rattle.psx_asm.specs.Shown.{shown, shown_statement, shown_label};
 ghost use Rattle.psx_asm.specs.Walking.{shown_line, shown_item, item, labelled, over, StandsBehind};
 
@@ -181,16 +181,19 @@ pub(crate) fn padding(last: u16, at: u32) -> u32
 }
 
 // How many bytes a statement places at an address.
-fn size(at: u32, statement: &Statement<'_>) -> u64
-    ensures { result ≡ size at (shown_statement statement.now) }
+fn size(at: u32, statement: &Statement<'_>) -> u128
+    ensures value { result ≡ size at (shown_statement statement.now) }
+    ensures small { result < 2 ^ 68 }
 {
     match statement {
         Statement::Alone(_) | Statement::Branch(_, _) | Statement::Jump(_, _) => 4,
         Statement::Pair(_, _) | Statement::Address(_, _) => 8,
-        Statement::Values(width, values) => width_of(*width) as u64 * values.len() as u64,
-        Statement::Text(bytes) => bytes.len() as u64,
-        Statement::Space(count) => *count as u64,
-        Statement::Align(last) => padding(*last, at) as u64,
+        Statement::Values(Width::Byte, values) => values.len() as u128,
+        Statement::Values(Width::Half, values) => 2 * values.len() as u128,
+        Statement::Values(Width::Word, values) => 4 * values.len() as u128,
+        Statement::Text(bytes) => bytes.len() as u128,
+        Statement::Space(count) => *count as u128,
+        Statement::Align(last) => padding(*last, at) as u128,
         Statement::Empty | Statement::Org(_) | Statement::Equ(_, _) => 0,
     }
 }
@@ -202,7 +205,7 @@ fn after(at: u32, statement: &Statement<'_>) -> u32
     if let Statement::Org(next) = statement {
         return *next;
     }
-    ((at as u64 + size(at, statement)) % 4_294_967_296) as u32
+    ((at as u128 + size(at, statement)) % 4_294_967_296) as u32
 }
 
 // Gives the names of a line at an address.
@@ -232,11 +235,25 @@ impl<'a> Walk<'a> {
     }
 }
 
-// Whether a statement does nothing.
-fn is_empty(statement: &Statement<'_>) -> bool {
+// Keeps a statement unless it is empty.
+fn keep<'a>(
+    items: &mut Vec<Item<'a>>,
+    number: u32,
+    at: u32,
+    statement: Statement<'a>,
+) -> Result<(), AllocError>
+    ensures { OnOk result (map shown_item items.new.items ≡ map shown_item items.old.items ++ item number at (shown_statement statement.entry)) }
+{
     match statement {
-        Statement::Empty => true,
-        _ => false,
+        Statement::Empty => Ok(()),
+        statement => {
+            items.push(Item {
+                number,
+                at,
+                statement,
+            })?;
+            Ok(())
+        }
     }
 }
 
@@ -247,22 +264,15 @@ pub(crate) fn pass<'a>(
     line: Line<'a>,
 ) -> Result<(), AllocError>
     requires { walk.old.number + 1 < 2 ^ 32 }
+    ensures walk { OnOk result ((before : List Shown) (reading : Option (List Words)) → StandsBehind before walk.old
+        → line_after (known before) reading ≡ Ok (shown_line line.entry) → StandsBehind (before ++ shown_line line.entry ∷ []) walk.new) }
+    ensures items { OnOk result (map shown_item items.new.items
+        ≡ map shown_item items.old.items ++ item (walk.old.number + 1) walk.old.at (shown_statement line.entry.statement)) }
 {
     let at = walk.at;
     let number = walk.number + 1;
     give(&mut walk.symbols, at, &line)?;
     walk.number = number;
     walk.at = after(at, &line.statement);
-    if !is_empty(&line.statement) {
-        let Line {
-            label: _,
-            statement,
-        } = line;
-        items.push(Item {
-            number,
-            at,
-            statement,
-        })?;
-    }
-    Ok(())
+    keep(items, number, at, line.statement)
 }
