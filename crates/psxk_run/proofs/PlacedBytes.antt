@@ -4,8 +4,7 @@ use Rattle.std.specs.Prelude.{slice_set, min, max, All, replicate}
 use Rattle.std.proofs.lemmas.List.{take_more, length-set, length-replicate}
 use Rattle.std.proofs.lemmas.Grind.{flat_map-append}
 use Rattle.psx_asm.specs.declared.object.Part.{Part}
-use Rattle.psx_asm.specs.Assembly.{bytes_of_parts}
-use Rattle.psx_asm.specs.Placing.{addressed}
+use Rattle.psx_asm.specs.Placing.{addressed, bytes_of_parts}
 use Rattle.psxk_run.specs.Assembling.{lowest, highest, put, program, program_with, spanned, up, down, window_from, window_to}
 
 lowest-append : (a : ℕ) (xs ys : List (ℕ × ℕ)) → lowest a (xs ++ ys) ≡ lowest (lowest a xs) ys

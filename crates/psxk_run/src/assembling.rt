@@ -1,7 +1,7 @@
 //! The command `asm`: the PS-EXE of what an assembly text places.
 ghost use Rattle.std.specs.Prelude.{◌≡◌, ◌≢◌, ◌⊎◌, ◌<◌, ◌≤◌, ◌+◌, ◌-◌, ◌*◌, ◌/◌, ◌%◌, ◌^◌, ℕ, List, [], ◌∷◌, All, IfOk, length, slice_set, replicate};
-ghost use Rattle.psx_asm.specs.Assembly.{bytes_of_parts, placed_by};
-ghost use Rattle.psx_asm.specs.Placing.{addressed};
+ghost use Rattle.psx_asm.specs.Assembly.{placed_by};
+ghost use Rattle.psx_asm.specs.Placing.{addressed, bytes_of_parts};
 ghost use Rattle.psxk_run.specs.Assembling.{window_from, window_to, lowest, highest, put, down, up, pc_of, program, spanned, program_of, assembling, AreInWindow};
 
 use psx_asm::{Object, Part};

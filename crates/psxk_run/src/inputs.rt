@@ -8,7 +8,8 @@ ghost use Rattle.psxk_run.specs.Inputs.{IsLoaded, GivesProgram, GivesSchedule, G
 ghost use Rattle.psxk_run.specs.Sent.{GoesOn};
 ghost use Rattle.psxk_run.specs.Told.{told_run, word_of};
 ghost use Rattle.psxk_run.specs.Assembling.{AreInWindow};
-ghost use Rattle.psx_asm.specs.Assembly.{placed_by, bytes_of_parts};
+ghost use Rattle.psx_asm.specs.Placing.{bytes_of_parts};
+ghost use Rattle.psx_asm.specs.Assembly.{placed_by};
 
 use crate::assembling::{FROM, TO};
 use crate::command::Run;

@@ -20,7 +20,8 @@ ghost use Rattle.psxk_run.specs.Told.{told, told_run, HasBudget};
 ghost use Rattle.psxk_run.specs.Top.{IsDone, IsRefused, IsUnread, IsFaulty, IsQuiet, IsStatus, RunsBoard, RunsProgram, MakesText, run_of};
 ghost use Rattle.psxk_run.specs.Words.{words_of, IfCommand};
 ghost use Rattle.psxk_run.specs.Assembling.{AreInWindow, assembling};
-ghost use Rattle.psx_asm.specs.Assembly.{placed_by, bytes_of_parts};
+ghost use Rattle.psx_asm.specs.Placing.{bytes_of_parts};
+ghost use Rattle.psx_asm.specs.Assembly.{placed_by};
 
 use crate::assembling::assembling;
 use crate::command::{Request, Run, command};

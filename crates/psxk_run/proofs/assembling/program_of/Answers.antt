@@ -1,7 +1,7 @@
 use Rattle.std.proofs.Common.{◌≡◌, ◌<◌, ◌≤◌, ◌^◌, length, Result, Ok, Err, IfOk, arith}
 use Rattle.psx_base.specs.declared.stop.Memory.{Memory}
 use Rattle.psx_exe.specs.declared.exe.Exe.{Exe}
-use Rattle.psx_asm.specs.Assembly.{bytes_of_parts}
+use Rattle.psx_asm.specs.Placing.{bytes_of_parts}
 use Rattle.psxk_run.specs.Assembling.{lowest, highest, window_from, window_to}
 use Rattle.psxk_run.proofs.PlacedBytes.{highest-below, lowest-above, program-none, program-some, spanned-small}
 use Rattle.psxk_run.proofs.assembling.program_of.Goals as goal

@@ -1,5 +1,5 @@
 use Rattle.std.proofs.Common.{◌≡◌, take}
-use Rattle.psx_asm.specs.Assembly.{bytes_of_parts}
+use Rattle.psx_asm.specs.Placing.{bytes_of_parts}
 use Rattle.psxk_run.specs.Assembling.{put}
 use Rattle.psxk_run.proofs.assembling.put_parts.Given as goal
 

@@ -1,5 +1,5 @@
 use Rattle.std.proofs.Common.{◌≡◌, take}
-use Rattle.psx_asm.specs.Assembly.{bytes_of_parts}
+use Rattle.psx_asm.specs.Placing.{bytes_of_parts}
 use Rattle.psxk_run.specs.Assembling.{lowest, highest, window_from, window_to}
 use Rattle.psxk_run.proofs.assembling.span_of.Given as goal
 
