@@ -47,6 +47,7 @@ sll r0, r0, 0
     );
     // five bytes from 80010003h on: three zero bytes in front, none behind
     let mut file = program(&rt, &[0x0041_0000, 0x0000_0024]);
+    assert_eq!(rt; file.len(), 2056);
     file[0x18] = 3;
     file[0x1C] = 5;
     prints(
