@@ -68,12 +68,16 @@ new_equ k l m v n e = by (is_some (k v) || is_label l.label v) refl e
     is_same : (w : List ℕ) (b : Bool) → bytes_eq v w ≡ b → is_some (if b then Some (symbols.Number n) else None) ≡ true → v ≡ w
     is_same w true t h = same v w t
     is_same w false t h = cc
+
     by : (b : Bool) → (is_some (k v) || is_label l.label v) ≡ b → (if b then Err (Twice v) else Ok l) ≡ Ok m → (l ≡ m) × NewName k l (Equ v n)
     by true t f = cc
-    by false t f = (cc, λ w h.
-        let e : v ≡ w = is_same w (bytes_eq v w) refl h in
-        let both = both_false (is_some (k v)) (is_label l.label v) t in
-        (ap k (sym e) ∙ unknown (k v) both.0, ap (is_label l.label) (sym e) ∙ both.1))
+    by false t f = (
+      cc,
+      λ w h.
+          let e : v ≡ w = is_same w (bytes_eq v w) refl h in
+          let both = both_false (is_some (k v)) (is_label l.label v) t in
+          (ap k (sym e) ∙ unknown (k v) both.0, ap (is_label l.label) (sym e) ∙ both.1),
+    )
 
 new_name : (k : Known) (l m : Line) (s : Statement) → checked_name k l s ≡ Ok m → (l ≡ m) × NewName k l s
 new_name k l m (Equ v n) e = new_equ k l m v n e
@@ -105,7 +109,7 @@ is_new k reading l e =
     record {
       label = λ w h. first.1 w (ap (λ x. is_label x.label w) whole ∙ h);
       name = λ w h. let found = second.1 w (ap (λ x. is_some (named x.statement w)) second.0 ∙ h) in
-        (found.0, ap (λ x. is_label x.label w) (sym second.0) ∙ found.1);
+          (found.0, ap (λ x. is_label x.label w) (sym second.0) ∙ found.1);
     }
 
 -- what is said last of a new name is what is said first of it

@@ -4,3 +4,9 @@ pub mod Known
 pub mod Returned
 pub mod Front
 pub mod Aligned
+pub mod Addresses
+pub mod Window
+pub mod Rounds
+pub mod Lines
+pub mod Behind
+pub mod Whole

@@ -1,5 +1,6 @@
 -- What the code's rounds return. Only private contracts cite it: `Assembly` says what is promised.
 use Rattle.std.specs.Prelude.{◌≡◌, ℕ, ◌++◌, List, [], ◌∷◌, map, Vec, Result, Ok, Err}
+use Rattle.psx_asm.specs.declared.object.Object.{Object}
 use Rattle.psx_asm.specs.declared.fault.AsmError.{AsmError}
 use Rattle.psx_asm.specs.declared.fault.AsmError.TheVariants as errors
 use Rattle.psx_asm.specs.declared.fault.Failure.{Failure}
@@ -10,7 +11,7 @@ use Rattle.psx_asm.specs.Line.{Line, ◌>>=◌, known}
 use Rattle.psx_asm.specs.Names.{names}
 use Rattle.psx_asm.specs.Walking.{Item, shown_item, items_behind}
 use Rattle.psx_asm.specs.Output.{placed_behind}
-use Rattle.psx_asm.specs.Assembly.{numbered}
+use Rattle.psx_asm.specs.Assembly.{numbered, Placed, placed_by}
 
 -- an error is the definition's, unless memory ran out
 abbrev pub IsErrorOf : {Y : Type 0} → AsmError → Result Y AsmError → Type 0
@@ -44,3 +45,8 @@ placed_items known from to placed (i ∷ is) = do
 abbrev pub GivesPlaced : {X : Type 0} → (X → List (ℕ × ℕ)) → Result X AsmError → Result (List (ℕ × ℕ)) AsmError → Type 0
 GivesPlaced view (Ok x) given = given ≡ Ok (view x)
 GivesPlaced view (Err e) given = IsErrorOf e given
+
+-- what the code returned is what the definition gives, unless memory ran out
+abbrev pub GivesObject : Result Object AsmError → Result Placed AsmError → Type 0
+GivesObject (Ok o) given = given ≡ Ok (placed_by o)
+GivesObject (Err e) given = IsErrorOf e given

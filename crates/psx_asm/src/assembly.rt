@@ -1,13 +1,13 @@
 //! A text assembled.
 ghost use Rattle.std.specs.Prelude.{◌≡◌, ◌⊎◌, ◌≤◌, ◌==◌, Option, Ok, Err, Result, IfOk, IfErr, MatchResult, List, [], length, drop, map, codes};
-ghost use Rattle.std.specs.List.{before_first};
+ghost use Rattle.std.specs.List.{before_first, position_or_len};
 ghost use Rattle.psx_asm.specs.declared.fault.AsmError.{AsmError as Fault};
 ghost use Rattle.psx_asm.specs.Piece.{Piece};
 ghost use Rattle.psx_asm.specs.Names.{names};
 ghost use Rattle.psx_asm.specs.Walking.{shown_item};
 ghost use Rattle.psx_asm.specs.Placing.{bytes_of_parts};
-ghost use Rattle.psx_asm.specs.Rounds.{error_at, GivesRound, GivesPlaced, placed_items};
-ghost use Rattle.psx_asm.specs.Assembly.{lines_of, AreReadAs, first_round, label_address, IsAssemblyOf, Placed, placed_by, HasOneAnswer};
+ghost use Rattle.psx_asm.specs.Rounds.{error_at, GivesRound, GivesPlaced, GivesObject, placed_items};
+ghost use Rattle.psx_asm.specs.Assembly.{lines_of, AreReadAs, first_round, label_address, assembled, IsAssemblyOf, Placed, placed_by, HasOneAnswer};
 
 use crate::fault::{AsmError, Failure, LONGEST};
 use crate::line::{Item, Line, Walk, line_after, pass};
@@ -18,16 +18,21 @@ use crate::symbols::Symbols;
 use std::alloc::{AllocError, Global};
 use std::collections::HashSet;
 
+// How many bytes the first line of a text has.
+fn line_len(text: &[u8]) -> usize
+    ensures value { result ≡ position_or_len (λ b. b == 10) text.now }
+    ensures within { result ≤ length text.now }
+{
+    text.iter().take_while(|byte| **byte != 10).count()
+}
+
 // The line that begins at a place.
 fn line_at(text: &[u8], from: usize) -> &[u8]
     requires { from ≤ length text.now }
     ensures { result.now ≡ before_first (λ b. b == 10) (drop from text.now) }
 {
     let rest = &text[from..];
-    match rest.iter().position(|byte| *byte == 10) {
-        Some(len) => &rest[..len],
-        None => rest,
-    }
+    &rest[..line_len(rest)]
 }
 
 // The fault of a line.
@@ -115,6 +120,23 @@ fn start_of(known: &Symbols<'_>) -> Option<u32>
     }
 }
 
+// A text that isn't too long.
+fn assembled(alloc: Global, text: &[u8], window: Window) -> Result<Object, AsmError>
+    requires { length text.now ≤ 4194304 }
+    ensures { (readings : List (Option (List Piece))) → AreReadAs (lines_of text.now) readings → GivesObject result (assembled window.from window.to readings) }
+{
+    let round = match first_round(alloc, text) {
+        Ok(round) => round,
+        Err(error) => return Err(error),
+    };
+    let known = &round.walk.symbols;
+    let start = start_of(known);
+    match second_round(alloc, known, window, round.items.as_slice()) {
+        Ok(parts) => Ok(Object { parts, start }),
+        Err(error) => Err(error),
+    }
+}
+
 /// The law of assembly: each text gives one thing in a window, or has one first fault. The call does nothing.
 pub fn object_or_fault(text: &[u8], from: u32, to: u32)
     ensures { HasOneAnswer text.now from to }
@@ -132,10 +154,5 @@ pub fn assemble(alloc: Global, text: &[u8], from: u32, to: u32) -> Result<Object
     if text.len() > LONGEST {
         return Err(AsmError::TooLong { limit: LONGEST });
     }
-    let round = first_round(alloc, text)?;
-    let window = Window { from, to };
-    let known = &round.walk.symbols;
-    let parts = second_round(alloc, known, window, round.items.as_slice())?;
-    let start = start_of(known);
-    Ok(Object { parts, start })
+    assembled(alloc, text, Window { from, to })
 }

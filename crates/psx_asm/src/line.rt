@@ -266,6 +266,7 @@ pub(crate) fn pass<'a>(
     requires { walk.old.number + 1 < 2 ^ 32 }
     ensures walk { OnOk result ((before : List Shown) (reading : Option (List Words)) → StandsBehind before walk.old
         → line_after (known before) reading ≡ Ok (shown_line line.entry) → StandsBehind (before ++ shown_line line.entry ∷ []) walk.new) }
+    ensures number { OnOk result (walk.new.number ≡ walk.old.number + 1) }
     ensures items { OnOk result (map shown_item items.new.items
         ≡ map shown_item items.old.items ++ item (walk.old.number + 1) walk.old.at (shown_statement line.entry.statement)) }
 {

@@ -1,5 +1,5 @@
 //! Where bytes are placed: in the window, and nowhere twice.
-ghost use Rattle.std.specs.Prelude.{◌≡◌, ◌++◌, ◌+◌, ◌%◌, ◌^◌, ℕ, List, [], not, find, length, replicate, option_map, Ok, IfOk, OnOk, IfSome, IsTrue};
+ghost use Rattle.std.specs.Prelude.{◌≡◌, ◌<◌, ◌++◌, ◌+◌, ◌%◌, ◌^◌, ℕ, List, [], not, find, length, replicate, option_map, Ok, IfOk, OnOk, IfSome, IsTrue};
 ghost use Rattle.psx_asm.specs.Failing.{Gives};
 ghost use Rattle.psx_asm.specs.Names.{names};
 ghost use Rattle.psx_asm.specs.Operands.{Known};
@@ -39,13 +39,20 @@ fn next(at: u32) -> u32
     ((at as u64 + 1) % 4_294_967_296) as u32
 }
 
+// Whether an address stands in the window.
+fn is_inside(window: Window, at: u32) -> bool
+    ensures { result ≡ is_inside window.from window.to at }
+{
+    window.from <= at && at <= window.to
+}
+
 // The first address of so many bytes that isn't in the window.
 fn first_outside(window: Window, at: u32, count: usize) -> Option<u32>
     ensures { (bytes : List ℕ) → length bytes ≡ count → result ≡ option_map (λ p. p.0) (find (λ p. not (is_inside window.from window.to p.0)) (addressed at bytes)) }
 {
     let mut address = at;
     for _ in 0..count {
-        if !(window.from <= address && address <= window.to) {
+        if !is_inside(window, address) {
             return Some(address);
         }
         address = next(address);
@@ -76,6 +83,7 @@ fn zeros_of(at: u32, statement: &Statement<'_>) -> Option<u32>
 }
 
 // The bytes of a statement at an address in the window. Zeros are made once it is known that they stand there.
+#[tactic(auto, unfolding(crate::specs::Output::bytes_inside))]
 fn bytes_inside(
     alloc: Global,
     known: &Symbols<'_>,
@@ -160,7 +168,8 @@ impl Output {
 
     // Whether bytes at an address would stand behind the last ones.
     fn goes_on_at(&self, at: u32) -> bool
-        ensures { IsTrue result → at ≡ (self.now.at + length self.now.bytes.items) % 2 ^ 32 }
+        ensures behind { IsTrue result → at ≡ (self.now.at + length self.now.bytes.items) % 2 ^ 32 }
+        ensures small { self.now.at < 2 ^ 32 }
     {
         at as u64 == (self.at as u64 + self.bytes.len() as u64) % 4_294_967_296
     }
@@ -201,10 +210,14 @@ pub(crate) fn placed(
     ensures placed { Gives shown_output result (placed_behind (names known.now) window.from window.to at (shown_output output) (shown_statement statement.now)) }
     ensures taken { IfOk result (λ o. IsTakenBy taken.new (shown_output o)) }
 {
-    let bytes = bytes_inside(alloc, known, window, at, statement)?;
-    if is_overlap(taken, at, bytes.len()) {
+    let bytes = match bytes_inside(alloc, known, window, at, statement) {
+        Ok(bytes) => bytes,
+        Err(failure) => return Err(failure),
+    };
+    let count = bytes.as_slice().len();
+    if is_overlap(taken, at, count) {
         return Err(Failure::Fault(AsmFault::Overlap));
     }
-    take(taken, at, bytes.len())?;
+    take(taken, at, count)?;
     Ok(output.with(alloc, at, bytes)?)
 }

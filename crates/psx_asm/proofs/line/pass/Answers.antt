@@ -11,9 +11,9 @@ returns-clause-walk c = always c.keep.result (λ before reading stands read.
     let line = shown_line c.args.line in
     record {
       known = λ w. c.in_ok-give.ensures w
-        ∙ ap (λ old. over (named line.statement w) (over (labelled c.args.walk.now.at line.label w) old)) (stands.known w)
-        ∙ ap (λ at. over (named line.statement w) (over (labelled at line.label w) (known before w))) stands.at
-        ∙ known-push before line reading read w;
+          ∙ ap (λ old. over (named line.statement w) (over (labelled c.args.walk.now.at line.label w) old)) (stands.known w)
+          ∙ ap (λ at. over (named line.statement w) (over (labelled at line.label w) (known before w))) stands.at
+          ∙ known-push before line reading read w;
       at = c.after-walk.ensures ∙ ap (λ at. after at line.statement) stands.at ∙ sym (address_from-push first_address before line);
       number = ap (λ n. n + 1) stands.number ∙ sym (length-append before (line ∷ []));
     })
