@@ -1,22 +1,19 @@
 -- The first round as the code goes on.
-use Rattle.std.proofs.Common.{◌≡◌, ℕ, ◌+◌, ◌<◌, ◌≤◌, List, [], ◌∷◌, ◌++◌, length, drop, map, Option, Some, None, Result, Ok, Err, refl, sym, ap, subst, ◌∙◌, ⊎_elim, arith}
+use Rattle.std.proofs.Common.{◌≡◌, ℕ, ◌+◌, ◌<◌, ◌≤◌, List, [], ◌∷◌, ◌++◌, length, drop, Option, Result, Ok, Err, refl, sym, ap, subst, ◌∙◌, ⊎_elim, arith}
 use Rattle.std.specs.List.{before_first}
-use Rattle.psx_asm.specs.declared.line.Item as items
-use Rattle.psx_asm.specs.declared.line.Line as coded
 use Rattle.psx_asm.specs.declared.line.Walk.{Walk}
 use Rattle.psx_asm.specs.declared.fault.AsmFault.{AsmFault}
 use Rattle.psx_asm.specs.declared.fault.AsmError.{AsmError}
 use Rattle.psx_asm.specs.declared.fault.Failure.{Failure}
 use Rattle.psx_asm.specs.declared.fault.Failure.TheVariants as failures
 use Rattle.psx_asm.specs.Piece.{Piece, IsReadAs}
-use Rattle.psx_asm.specs.Operands.{Known}
-use Rattle.psx_asm.specs.Line.{Line, ◌>>=◌, line_after, known, address}
+use Rattle.psx_asm.specs.Line.{Line, ◌>>=◌, line_after, known}
 use Rattle.psx_asm.specs.Names.{names}
 use Rattle.psx_asm.specs.Failing.{Fails}
-use Rattle.psx_asm.specs.Walking.{Item, item, items_behind, shown_item, shown_line, StandsBehind}
-use Rattle.psx_asm.specs.Rounds.{IsErrorOf, error_at, GivesRound, Holds}
-use Rattle.psx_asm.specs.Assembly.{lines_of, AreReadAs, numbered, first_round}
-use Rattle.psx_asm.proofs.Lines.{ends_line, AreLeft, LineAnd, line_and}
+use Rattle.psx_asm.specs.Walking.{Item, item, items_behind, StandsBehind}
+use Rattle.psx_asm.specs.Rounds.{IsErrorOf, error_at}
+use Rattle.psx_asm.specs.Assembly.{AreReadAs, numbered, first_round}
+use Rattle.psx_asm.proofs.Lines.{ends_line, AreLeft, line_and}
 use Rattle.psx_asm.proofs.Rounds.{items_behind-push}
 
 abbrev pub Readings : Type 0

@@ -3,7 +3,6 @@ use Rattle.std.proofs.Common.{◌≡◌, ℕ, Bool, true, false, ◌||◌, List,
 use Rattle.std.proofs.lemmas.Slice.Eq.{bytes_eq-Decides}
 use Rattle.psx_asm.specs.declared.symbol.Symbol.{Symbol}
 use Rattle.psx_asm.specs.declared.symbol.Symbol.TheVariants as symbols
-use Rattle.psx_asm.specs.declared.fault.AsmFault.{AsmFault}
 use Rattle.psx_asm.specs.declared.fault.AsmFault.TheVariants.{Twice}
 use Rattle.psx_asm.specs.Piece.{Piece}
 use Rattle.psx_asm.specs.Operands.{Known}

@@ -1,10 +1,10 @@
 -- Values up to a line's end, one by one.
-use Rattle.std.proofs.Common.{◌≡◌, ℕ, ◌<◌, Bool, true, false, ◌==◌, List, [], ◌∷◌, ◌++◌, length, drop, map, Option, Some, None, refl, sym, ap, ◌∙◌, append_assoc, length-drop, if◌then◌else◌, arith}
+use Rattle.std.proofs.Common.{◌≡◌, ℕ, ◌<◌, Bool, true, false, ◌==◌, List, [], ◌∷◌, ◌++◌, length, drop, Option, Some, None, refl, sym, ap, ◌∙◌, append_assoc, length-drop, if◌then◌else◌, arith}
 use Rattle.std.proofs.lemmas.List.{length-map}
 use Rattle.psx_asm.specs.declared.piece.Piece as lexed
 use Rattle.psx_asm.specs.Shown.{shown}
 use Rattle.psx_asm.specs.Piece.{Piece, Name, Directive, Number, Quoted, Mark}
-use Rattle.psx_asm.specs.Operands.{Value, Sum, value, values, before, plus, sum_from}
+use Rattle.psx_asm.specs.Operands.{Value, Sum, value, values, before, sum_from}
 
 -- values before others
 abbrev pub joined : List Value → Option (List Value) → Option (List Value)

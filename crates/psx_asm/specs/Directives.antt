@@ -6,7 +6,7 @@ use Rattle.psx_asm.specs.declared.shape.Directive.{Directive}
 use Rattle.psx_asm.specs.declared.shape.Directive.TheVariants as does
 use Rattle.psx_asm.specs.Piece.{Piece, Name, Quoted}
 use Rattle.psx_asm.specs.Numbers.{low_word}
-use Rattle.psx_asm.specs.Operands.{Known, Value, ◌>>=◌, number, number_below, values, ends}
+use Rattle.psx_asm.specs.Operands.{Known, ◌>>=◌, number, number_below, values, ends}
 use Rattle.psx_asm.specs.Statement.{Statement, Values, Text, Space, Align, Org, Equ}
 
 -- the directives that are there

@@ -1,5 +1,5 @@
 -- Lines: a label and a statement, which names they give, and where each line stands.
-use Rattle.std.specs.Prelude.{ℕ, ◌+◌, ◌-◌, ◌*◌, ◌%◌, ◌^◌, ℤ, Bool, true, false, ◌||◌, ◌==◌, List, [], ◌∷◌, length, bytes_eq, is_some, Option, Some, None, Result, Ok, Err, if◌then◌else◌}
+use Rattle.std.specs.Prelude.{ℕ, ◌+◌, ◌-◌, ◌*◌, ◌%◌, ◌^◌, Bool, false, ◌||◌, ◌==◌, List, [], ◌∷◌, length, bytes_eq, is_some, Option, Some, None, Result, Ok, Err, if◌then◌else◌}
 use Rattle.psx_asm.specs.declared.shape.Width.{Width}
 use Rattle.psx_asm.specs.declared.shape.Width.TheVariants.{Byte, Half, Word}
 use Rattle.psx_asm.specs.declared.shape.Shape.{Shape}

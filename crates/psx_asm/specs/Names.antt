@@ -1,5 +1,5 @@
 -- What the code's list of names says of a name.
-use Rattle.std.specs.Prelude.{ℕ, List, bytes_eq}
+use Rattle.std.specs.Prelude.{bytes_eq}
 use Rattle.indexmap.specs.IndexMap.{get_by}
 use Rattle.psx_asm.specs.declared.symbols.Symbols.{Symbols}
 use Rattle.psx_asm.specs.Operands.{Known}

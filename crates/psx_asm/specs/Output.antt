@@ -1,10 +1,9 @@
 -- What the code holds of placed bytes. Only private contracts cite it: `Placing` and `Assembly` say what is promised.
-use Rattle.std.specs.Prelude.{◌≡◌, ℕ, List, ◌++◌, not, nat_eq, find, flat_map, Result, Ok, Err}
+use Rattle.std.specs.Prelude.{◌≡◌, ℕ, List, ◌++◌, not, nat_eq, find, Result, Ok}
 use Rattle.std.specs.HashSet.{HashSet, contains}
 use Rattle.std.specs.declared.hash.FoldHasher.{FoldHasher}
 use Rattle.std.specs.declared.hash.BuildHasherDefault.{BuildHasherDefault}
 use Rattle.psx_asm.specs.declared.place.Output.{Output}
-use Rattle.psx_asm.specs.declared.object.Part.{Part}
 use Rattle.psx_asm.specs.declared.fault.AsmFault.{AsmFault}
 use Rattle.psx_asm.specs.Operands.{Known}
 use Rattle.psx_asm.specs.Statement.{Statement}

@@ -1,5 +1,5 @@
 -- The pieces of a line: its tokens, each with its text. The language is this project's own, in the manner of R3000A assemblers.
-use Rattle.std.specs.Prelude.{◌≡◌, ℕ, ◌-◌, ℤ, List, take, drop, map, slice_index, Option, Some, None, Result, Ok, Err}
+use Rattle.std.specs.Prelude.{◌≡◌, ℕ, ◌-◌, ℤ, List, take, drop, map, slice_index, Option, Some, None, Ok, Err}
 use Rattle.psx_lex.specs.declared.token.Kind.{Kind}
 use Rattle.psx_lex.specs.declared.token.Kind.TheVariants as kinds
 use Rattle.psx_lex.specs.declared.token.Token.{Token}

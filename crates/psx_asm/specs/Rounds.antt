@@ -1,5 +1,5 @@
 -- What the code's rounds return. Only private contracts cite it: `Assembly` says what is promised.
-use Rattle.std.specs.Prelude.{◌≡◌, ℕ, ◌++◌, List, [], ◌∷◌, map, Vec, Result, Ok, Err}
+use Rattle.std.specs.Prelude.{◌≡◌, ℕ, List, [], ◌∷◌, map, Result, Ok, Err}
 use Rattle.psx_asm.specs.declared.object.Object.{Object}
 use Rattle.psx_asm.specs.declared.fault.AsmError.{AsmError}
 use Rattle.psx_asm.specs.declared.fault.AsmError.TheVariants as errors

@@ -1,12 +1,12 @@
 -- How the code goes over a text's lines: what it holds behind some of them. Only private contracts cite it: `Assembly` says what is promised.
-use Rattle.std.specs.Prelude.{◌≡◌, ℕ, ◌+◌, List, [], ◌∷◌, ◌++◌, length, bytes_eq, Option, Some, None, Result, Ok, Err, if◌then◌else◌}
+use Rattle.std.specs.Prelude.{◌≡◌, ℕ, ◌+◌, List, [], ◌∷◌, ◌++◌, length, bytes_eq, Option, Some, None, if◌then◌else◌}
 use Rattle.psx_asm.specs.declared.symbol.Symbol.{Symbol}
 use Rattle.psx_asm.specs.declared.symbol.Symbol.TheVariants as symbols
 use Rattle.psx_asm.specs.declared.line.Line as coded
 use Rattle.psx_asm.specs.declared.line.Item as items
 use Rattle.psx_asm.specs.declared.line.Walk as walks
 use Rattle.psx_asm.specs.Statement.{Statement, Empty}
-use Rattle.psx_asm.specs.Line.{Line, named, address, known, address_from, first_address}
+use Rattle.psx_asm.specs.Line.{Line, address, known}
 use Rattle.psx_asm.specs.Names.{names}
 use Rattle.psx_asm.specs.Shown.{shown_statement, shown_label}
 

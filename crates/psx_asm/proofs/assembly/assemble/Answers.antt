@@ -1,5 +1,4 @@
-use Rattle.std.proofs.Common.{◌<◌, ◌≤◌, length, inr, arith}
-use Rattle.psx_asm.specs.Assembly.{longest}
+use Rattle.std.proofs.Common.{inr, arith}
 use Rattle.psx_asm.proofs.Whole.{gives_object, gives_fault, gives_only, too_long}
 use Rattle.psx_asm.proofs.assembly.assemble.Goals as goal
 

@@ -1,4 +1,4 @@
-use Rattle.std.proofs.Common.{◌+◌, sym, arith}
+use Rattle.std.proofs.Common.{arith}
 use Rattle.psx_asm.specs.Walking.{shown_line}
 use Rattle.psx_asm.proofs.Behind.{line_fails, line_passes}
 use Rattle.psx_asm.proofs.assembly.first_round.Goals as goal

@@ -3,7 +3,6 @@ use Rattle.psx_asm.specs.Names.{names}
 use Rattle.psx_asm.specs.Walking.{shown_item}
 use Rattle.psx_asm.specs.Output.{shown_output, IsTakenBy}
 use Rattle.psx_asm.specs.Rounds.{placed_items}
-use Rattle.psx_asm.proofs.Rounds.{second_round-items}
 use Rattle.psx_asm.proofs.assembly.second_round.Given as goal
 
 abbrev pub invariant-loop-item : goal.invariant-loop-item

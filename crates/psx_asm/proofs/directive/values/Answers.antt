@@ -1,7 +1,5 @@
-use Rattle.std.proofs.Common.{◌≡◌, ◌≤◌, ap, ◌∙◌, sym, subst}
 use Rattle.std.proofs.lemmas.List.{map-append}
-use Rattle.psx_asm.specs.Operands.{values}
-use Rattle.psx_asm.specs.Shown.{shown, shown_value, shown_values}
+use Rattle.psx_asm.specs.Shown.{shown_value}
 use Rattle.psx_asm.proofs.ValueLists.{joined_none, joined_some}
 use Rattle.psx_asm.proofs.directive.values.Goals as goal
 

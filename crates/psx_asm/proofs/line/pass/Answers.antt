@@ -1,6 +1,5 @@
-use Rattle.std.proofs.Common.{◌+◌, ◌∷◌, [], ap, sym, ◌∙◌, length-append, arith}
+use Rattle.std.proofs.Common.{◌+◌, ◌∷◌, [], ap, sym, ◌∙◌, length-append}
 use Rattle.psx_asm.specs.Line.{first_address, known, after, named}
-use Rattle.psx_asm.specs.Shown.{shown_statement, shown_label}
 use Rattle.psx_asm.specs.Walking.{shown_line, over, labelled}
 use Rattle.psx_asm.proofs.Returned.{always}
 use Rattle.psx_asm.proofs.Known.{known-push, address_from-push}

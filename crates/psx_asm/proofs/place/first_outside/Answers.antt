@@ -1,4 +1,4 @@
-use Rattle.std.proofs.Common.{◌≡◌, ◌<◌, length, sym, ◌∙◌, arith}
+use Rattle.std.proofs.Common.{◌<◌, length, sym, arith}
 use Rattle.psx_asm.proofs.Addresses.{outside_found, outside_on}
 use Rattle.psx_asm.proofs.place.first_outside.Goals as goal
 

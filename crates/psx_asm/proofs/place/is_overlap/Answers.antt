@@ -1,4 +1,4 @@
-use Rattle.std.proofs.Common.{◌≡◌, ◌<◌, length, sym, ◌∙◌, arith}
+use Rattle.std.proofs.Common.{◌<◌, length, sym, ◌∙◌, arith}
 use Rattle.psx_asm.proofs.Addresses.{overlap_found, overlap_on}
 use Rattle.psx_asm.proofs.place.is_overlap.Goals as goal
 

@@ -1,4 +1,4 @@
-use Rattle.std.proofs.Common.{◌≡◌, ◌<◌, ◌≤◌, ◌^◌, length, sym, ap, ◌∙◌, ◌++◌, arith}
+use Rattle.std.proofs.Common.{◌<◌, ◌≤◌, ◌^◌, length, ap, ◌∙◌, ◌++◌, arith}
 use Rattle.std.proofs.lemmas.List.{take_all}
 use Rattle.psx_asm.specs.Placing.{addressed, is_taken}
 use Rattle.psx_asm.proofs.Addresses.{taken_more}

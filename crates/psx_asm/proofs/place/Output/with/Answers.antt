@@ -1,4 +1,4 @@
-use Rattle.std.proofs.Common.{◌≡◌, ◌++◌, refl, sym, ap, ◌∙◌, append_assoc}
+use Rattle.std.proofs.Common.{◌++◌, refl, sym, ap, ◌∙◌, append_assoc}
 use Rattle.psx_asm.specs.Placing.{addressed, bytes_of_parts}
 use Rattle.psx_asm.proofs.Addresses.{addressed-append}
 use Rattle.psx_asm.proofs.place.Output.with.Goals as goal
