@@ -14,4 +14,3 @@ pub mod Feeds
 pub mod ReadLines
 pub mod Placing
 pub mod Rounds
-pub mod OneReading
