@@ -1,5 +1,5 @@
 #!/usr/bin/env bash
-# Writes the tests of crates/example_runs for the named examples: each text with its expected output, as the files here have them.
+# Writes the tests of crates/cross_tests for the named examples: each text with its expected output, as the files here have them.
 set -euo pipefail
 cd "$(dirname "$0")"
 

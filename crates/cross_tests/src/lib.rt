@@ -1,8 +1,10 @@
-//! The programs of examples/, each assembled and run by the top call over hosts in memory. This crate has tests alone.
+//! Tests that cross crates: the programs of examples/, each assembled and run by the top call over hosts in memory, and the kernel's words, printed and assembled again. There is nothing else here.
 #![tactic(auto)]
 
 #[cfg(test)]
 mod programs;
+#[cfg(test)]
+mod rom;
 #[cfg(test)]
 mod stops;
 
@@ -35,7 +37,7 @@ pub(crate) fn shows<R: AllocGlobal + Abort>(rt: &R, text: &[u8], tty: &[u8], sto
         "{stop:?}"
     );
     let mut host = host_with(rt, "a.exe", maker.sent(Out::Ram));
-    let ends_well = stop.starts_with(b" Exit ") || stop == b" Budget\n";
+    let ends_well = stop.starts_with(b" Exit ") || stop == b" Budget\n".as_slice();
     let status = if ends_well { 0 } else { 1 };
     let words = ["run", "a.exe", "-", "2000000"];
     assert_eq!(rt; psxk(rt.alloc(), &words, &mut host), status, "{stop:?}");
