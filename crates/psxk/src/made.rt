@@ -82,37 +82,22 @@ fn assembles_programs(rt: HostRuntime) {
     let text = b"start: beq r0, r0, far\n.space 131068\nfar: nop\n";
     let host = assembles(&rt, text);
     let file = host.sent(Out::Ram);
-    assert_eq!(rt;
-        file.get(0x800..0x804),
-        Some([0xFF, 0x7F, 0x00, 0x10].as_slice())
-    );
     // 131,076 bytes, up to a multiple of 2,048
     assert_eq!(rt; file.len(), 0x800 + 133_120);
+    assert!(rt; file[0x800..].starts_with(&[0xFF, 0x7F, 0x00, 0x10]));
     // in the middle of 2,048 bytes: lui and ori, behind zeros
     let host = assembles(&rt, b".org 0x80010804\nnop\nstart: la r4, 0x80012345\n");
     let file = host.sent(Out::Ram);
     assert_eq!(rt; file.len(), 0x1000);
-    assert_eq!(rt; file.get(..8), Some(b"PS-X EXE".as_slice()));
-    assert_eq!(rt;
-        file.get(0x10..0x14),
-        Some([0x08, 0x08, 0x01, 0x80].as_slice())
-    );
-    assert_eq!(rt;
-        file.get(0x18..0x1C),
-        Some([0x00, 0x08, 0x01, 0x80].as_slice())
-    );
-    assert_eq!(rt;
-        file.get(0x808..0x810),
-        Some([0x01, 0x80, 0x04, 0x3C, 0x45, 0x23, 0x84, 0x34].as_slice())
-    );
+    assert!(rt; file.starts_with(b"PS-X EXE"));
+    assert!(rt; file[0x10..].starts_with(&[0x08, 0x08, 0x01, 0x80]));
+    assert!(rt; file[0x18..].starts_with(&[0x00, 0x08, 0x01, 0x80]));
+    assert!(rt; file[0x808..].starts_with(&[0x01, 0x80, 0x04, 0x3C, 0x45, 0x23, 0x84, 0x34]));
     // nothing placed
     let host = assembles(&rt, b".org 0x80020000\nstart:\n");
     let file = host.sent(Out::Ram);
     assert_eq!(rt; file.len(), 0x800);
-    assert_eq!(rt;
-        file.get(0x10..0x14),
-        Some([0x00, 0x00, 0x01, 0x80].as_slice())
-    );
+    assert!(rt; file[0x10..].starts_with(&[0x00, 0x00, 0x01, 0x80]));
     let _host = assembles(&rt, b"");
 }
 
