@@ -130,12 +130,27 @@ fn names_the_fault_of_a_text(rt: HostRuntime) {
     );
 }
 
+// A loop over the bytes of a text, as docs/formats.md has it.
+const HELLO_TEXT: &[u8] = b"start:  la r8, text        # two words: lui and ori
+next:   lbu r4, 0(r8)
+        addiu r8, r8, 1    # in the load's delay
+        beq r4, r0, done
+        li r9, 0x3C        # in the branch's slot
+        li r10, 0xA0
+        jalr r31, r10
+        nop
+        b next
+        nop
+done:   li r10, 0xA0
+        jr r10
+        li r9, 6
+text:   .asciiz \"hello\\n\"
+";
+
 #[test]
 fn runs_what_it_assembles(rt: HostRuntime) {
-    let text =
-        b"addiu r4, r0, 'A'\nli r9, 0x3C\nli r10, 0xA0\njalr r31, r10\nnop\nli r4, 0\nli r9, 6\njr r10\nnop\n";
-    let made = assembles(&rt, text);
+    let made = assembles(&rt, HELLO_TEXT);
     let mut host = host_with(&rt, made.sent(Out::Ram));
     assert_eq!(rt; psxk(rt.alloc(), &RUN, &mut host), 0);
-    assert_eq!(rt; host.sent(Out::Tty), b"A".as_slice());
+    assert_eq!(rt; host.sent(Out::Tty), b"hello\n".as_slice());
 }
