@@ -70,6 +70,18 @@ if [ $# -eq 0 ]; then
     fi
 fi
 passed=0 failed=0
+# The tests of crates/cross_tests are to be these programs too.
+is_tested() {
+    "$examples/as_tests.sh" "${@:2}" | cmp - "$examples/../crates/cross_tests/src/$1.rt"
+}
+
+cd "$examples" || exit 1
+stops=(stop_*.s)
+mapfile -t programs < <(printf '%s\n' *.s | grep -v '^stop_')
+if ! is_tested programs "${programs[@]%.s}" || ! is_tested stops "${stops[@]%.s}"; then
+    echo "examples: examples/as_tests.sh makes other tests than crates/cross_tests has"
+    failed=1
+fi
 for name; do
     name=${name%.[sc]}
     if (check); then

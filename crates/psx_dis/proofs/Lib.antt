@@ -1,1 +1,16 @@
 pub mod Lines
+pub mod Spelling
+pub mod Words
+pub mod Digits
+pub mod SpelledLines
+pub mod Found
+pub mod Fitting
+pub mod Registers
+pub mod Shapes
+pub mod Aims
+pub mod Reading
+pub mod ReadInstructions
+pub mod Feeds
+pub mod ReadLines
+pub mod Placing
+pub mod Rounds

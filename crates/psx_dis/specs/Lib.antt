@@ -3,3 +3,4 @@ pub mod Targets
 pub mod Operands
 pub mod Numbers
 pub mod Printed
+pub mod Returning

@@ -1,8 +1,9 @@
 //! Words of machine code printed as assembly language.
 //! `print` gives the text of the definition `printed` (`specs/Printed.antt`), and `mnemonic` the one of an instruction.
-//! The top call's command `dis` is to send such a text. That assembling the text gives the words back isn't proved yet.
+//! The top call's command `dis` is to send such a text. `assembles_back` is its law: assembled, it gives the words back.
 #![tactic(auto)]
 
+mod law;
 mod mnemonics;
 mod operands;
 mod printer;
@@ -11,5 +12,6 @@ mod target;
 mod tests;
 mod text;
 
+pub use law::assembles_back;
 pub use mnemonics::mnemonic;
 pub use printer::print;

@@ -1,6 +1,7 @@
 //! Words and their printed forms, put together by hand from the instruction table.
 
 use crate::{mnemonic, print};
+use psx_asm::assemble;
 use psx_ins::ins::Ins;
 use std::test::Fail;
 
@@ -132,5 +133,29 @@ beq r0, r0, 0xFFFFFFF8
     );
     let jump = print(rt.alloc(), 0xFFFF_FFFC, &[0x0800_0001]).expect(&rt, "memory");
     assert_eq!(rt; jump.as_str(), ".org 0xFFFFFFFC\nj 0x00000004\n");
+    Ok(())
+}
+
+#[test]
+fn what_is_printed_assembles_back(rt: HostRuntime) -> Result<(), Fail> {
+    let words = [
+        0x2404_0041,
+        0x8FBF_FFFC,
+        0x0491_FFFF,
+        0x0C00_4001,
+        0x03FF_FFCD,
+        0xFFFF_FFFF,
+    ];
+    let text = print(rt.alloc(), 0x8001_0000, &words).expect(&rt, "memory");
+    let object = assemble(rt.alloc(), text.as_bytes(), 0x8001_0000, 0x8001_0017).expect(
+        &rt, "no fault",
+    );
+    let part = object.parts.as_slice().first().expect(&rt, "a part");
+    assert_eq!(rt; part.at, 0x8001_0000);
+    assert_eq!(rt;
+        part.bytes.as_slice(),
+        b"\x41\x00\x04\x24\xFC\xFF\xBF\x8F\xFF\xFF\x91\x04\x01\x40\x00\x0C\xCD\xFF\xFF\x03\xFF\xFF\xFF\xFF".as_slice()
+    );
+    assert_eq!(rt; object.start, None);
     Ok(())
 }

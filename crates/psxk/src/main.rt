@@ -14,6 +14,8 @@ mod refusals;
 #[cfg(test)]
 mod runs;
 #[cfg(test)]
+mod saved;
+#[cfg(test)]
 mod tests;
 
 use file_host::FileHost;

@@ -14,6 +14,11 @@ fn knows_its_words(rt: HostRuntime) {
         &[],
         &["run", "a.exe", "x", "1", "c", "d"],
         &["--help"],
+        &["image", "a.exe"],
+        &["dis"],
+        &["asm", "a.s", "b.s"],
+        &["gen", "0"],
+        &["gen", "1001"],
     ] {
         let mut host = host_with(&rt, &program(&rt, &HELLO));
         assert_eq!(rt; psxk(rt.alloc(), words, &mut host), 2);

@@ -5,8 +5,8 @@ use Rattle.psx_base.specs.declared.host.Out.TheVariants.{Tty, Ram, Report}
 use Rattle.psx_base.specs.Host.{Rose}
 use Rattle.kern_image.specs.Rom.{rom}
 use Rattle.psxk_run.specs.declared.refusal.Refusal.{Refusal}
-use Rattle.psxk_run.specs.declared.refusal.Refusal.TheVariants.{Program, Schedule, Config, Unread, Memory}
-use Rattle.psxk_run.specs.Command.{RunWords, Command, ToRun, ToImage, ToPrint}
+use Rattle.psxk_run.specs.declared.refusal.Refusal.TheVariants.{Program, Schedule, Config, Unread, Memory, Text}
+use Rattle.psxk_run.specs.Command.{RunWords, Command, ToRun, ToImage, ToPrint, ToAssemble}
 use Rattle.psxk_run.specs.Commands.{Loads, Refuses, Causes, Decides}
 use Rattle.psxk_run.specs.Inputs.{IsLoaded}
 use Rattle.psxk_run.specs.Printing.{printing}
@@ -14,11 +14,12 @@ use Rattle.psxk_run.specs.Refusals.{line_of}
 use Rattle.psxk_run.specs.Refusals as refusals
 use Rattle.psxk_run.specs.Reports.{memory_line}
 use Rattle.psxk_run.specs.Sent.{Grew, OnlyReports, Says, SentAlone}
-use Rattle.psxk_run.specs.Top.{Ran, Printed, IsDone, IsRefused, IsUnread, IsStatus, IsFaulty, IsQuiet, run_of, RunsProgram, MakesText}
+use Rattle.psxk_run.specs.Top.{Ran, Printed, IsDone, IsRefused, IsUnread, IsStatus, IsFaulty, IsQuiet, run_of, RunsProgram, MakesText, Assembled}
 use Rattle.psxk_run.specs.InPart.{ReportsFront, DoneInPart, SentInPart, InWork, InFault, InRead, InMemory}
-use Rattle.psxk_run.specs.Ends.{Ends, ByWork, ByRefusal, EndsWork, EndsRun, EndsPrinting, EndsRefused, Moment, moment}
-use Rattle.psxk_run.proofs.SameAnswer.{answers-inputs, answers-refusal, answers-program, answers-no_program}
-use Rattle.psxk_run.proofs.Statuses.{Carried, carried, carried-status, text-status, carried-wrote, carried-memory, carried-five, carried-quiet, listed-run, listed-refusal, refusal-high, not-done, not-faulty, five-faulty}
+use Rattle.psxk_run.specs.Ends.{Ends, ByWork, ByRefusal, EndsWork, EndsRun, EndsPrinting, EndsRefused, Moment, moment, EndsAssembling}
+use Rattle.psxk_run.proofs.SameAnswer.{answers-inputs, answers-refusal, answers-program, answers-no_program, answers-text, answers-no_text}
+use Rattle.psxk_run.proofs.Statuses.{Carried, carried, carried-status, text-status, carried-wrote, carried-memory, carried-five, carried-quiet, listed-run, refusal-high, not-done, not-faulty, five-faulty}
+use Rattle.psxk_run.specs.Assembling.{assembling}
 
 -- why a command was refused, by the refusal
 abbrev Reason : (List ℕ → Option (List ℕ)) → (before now : List ℕ → ℕ) → Command → Refusal → Type 0
@@ -32,11 +33,16 @@ reason held before now (ToRun c) Memory cause = cause
 reason held before now (ToRun c) (Program fault) cause = cause
 reason held before now (ToRun c) (Schedule fault) cause = cause
 reason held before now (ToRun c) (Config fault) cause = cause
+reason held before now (ToRun c) (Text fault) cause = cause
 reason held before now ToImage refusal cause = absurd cause
 reason held before now (ToPrint name) (Program fault) cause = cause
 reason held before now (ToPrint name) (Unread other) cause = (sym cause.0, subst (λ (n : List ℕ). Rose (before n) (now n)) (sym cause.0) cause.1)
 reason held before now (ToPrint name) Memory cause = cause
 reason held before now (ToPrint name) _ cause = absurd cause
+reason held before now (ToAssemble name) (Text fault) cause = cause
+reason held before now (ToAssemble name) (Unread other) cause = (sym cause.0, subst (λ (n : List ℕ). Rose (before n) (now n)) (sym cause.0) cause.1)
+reason held before now (ToAssemble name) Memory cause = cause
+reason held before now (ToAssemble name) _ cause = absurd cause
 
 -- ---- the clauses
 
@@ -74,7 +80,7 @@ module _ {H : Type 0} (holds : H → List ℕ → Option (List ℕ)) (sent : H �
 
   pub is-listed : Ended → IsStatus result
   is-listed (ByWork w) = listed-run result (work-status w)
-  is-listed (ByRefusal r) = listed-refusal r.refusal result (said r)
+  is-listed (ByRefusal r) = (refusal-high r.refusal result (said r)).1
 
   refused-by : (refusal : Refusal) → Reason (holds old) (loads old) (loads new) c refusal → Said (refusals.status_of refusal) (line_of refusal) → IsFaulty result → IsRefused holds sent old new c result
   refused-by (Unread name) cause (inl one) f = five-faulty result one.0 f
@@ -82,6 +88,7 @@ module _ {H : Type 0} (holds : H → List ℕ → Option (List ℕ)) (sent : H �
   refused-by (Program fault) cause (inl one) f = record { refusal = Program fault; given = cause; success = one.0; report = one.1 }
   refused-by (Schedule fault) cause (inl one) f = record { refusal = Schedule fault; given = cause; success = one.0; report = one.1 }
   refused-by (Config fault) cause (inl one) f = record { refusal = Config fault; given = cause; success = one.0; report = one.1 }
+  refused-by (Text fault) cause (inl one) f = record { refusal = Text fault; given = cause; success = one.0; report = one.1 }
   refused-by refusal cause (inr failed) f = not-faulty result (inr (inl failed.0)) f
 
   pub is-refused : Ended → IsFaulty result → IsRefused holds sent old new c result
@@ -93,6 +100,7 @@ module _ {H : Type 0} (holds : H → List ℕ → Option (List ℕ)) (sent : H �
   unread-by (Program fault) cause (inl one) e = absurd (omega (arith, one.0, e))
   unread-by (Schedule fault) cause (inl one) e = absurd (omega (arith, one.0, e))
   unread-by (Config fault) cause (inl one) e = absurd (omega (arith, one.0, e))
+  unread-by (Text fault) cause (inl one) e = absurd (omega (arith, one.0, e))
   unread-by Memory cause (inl one) e = absurd (omega (arith, one.0, e))
   unread-by refusal cause (inr failed) e = absurd (omega (arith, failed.0, e))
 
@@ -105,6 +113,7 @@ module _ {H : Type 0} (holds : H → List ℕ → Option (List ℕ)) (sent : H �
   wrote-by (Program fault) (inl one) e = absurd (omega (arith, one.0, e))
   wrote-by (Schedule fault) (inl one) e = absurd (omega (arith, one.0, e))
   wrote-by (Config fault) (inl one) e = absurd (omega (arith, one.0, e))
+  wrote-by (Text fault) (inl one) e = absurd (omega (arith, one.0, e))
   wrote-by (Unread name) (inl one) e = absurd (omega (arith, one.0, e))
   wrote-by Memory (inl one) e = absurd (omega (arith, one.0, e))
 
@@ -121,6 +130,7 @@ module _ {H : Type 0} (holds : H → List ℕ → Option (List ℕ)) (sent : H �
   memory-by (Program fault) (inl one) e = absurd (omega (arith, one.0, e))
   memory-by (Schedule fault) (inl one) e = absurd (omega (arith, one.0, e))
   memory-by (Config fault) (inl one) e = absurd (omega (arith, one.0, e))
+  memory-by (Text fault) (inl one) e = absurd (omega (arith, one.0, e))
   memory-by (Unread name) (inl one) e = absurd (omega (arith, one.0, e))
   memory-by refusal (inr failed) e = absurd (omega (arith, failed.0, e))
 
@@ -134,6 +144,7 @@ module _ {H : Type 0} (holds : H → List ℕ → Option (List ℕ)) (sent : H �
   part-by (Program fault) cause report = InFault (record { refusal = Program fault; given = cause; report = report })
   part-by (Schedule fault) cause report = InFault (record { refusal = Schedule fault; given = cause; report = report })
   part-by (Config fault) cause report = InFault (record { refusal = Config fault; given = cause; report = report })
+  part-by (Text fault) cause report = InFault (record { refusal = Text fault; given = cause; report = report })
 
 -- ---- command by command
 
@@ -159,14 +170,20 @@ module _ {H : Type 0} (holds : H → List ℕ → Option (List ℕ)) (sent : H �
       let t = done-text Tty (printing p.exe) p.text.sends d in
       record { exe = p.exe; given = p.given; text = t.1; success = t.0 }
 
+  done-assemble : (name : List ℕ) → EndsAssembling start last name result → (result ≡ 0) ⊎ (result ≡ 1) → Assembled holds sent old new name result
+  done-assemble name a d =
+      let t = done-text Ram (assembling a.placed) a.text.sends d in
+      record { placed = a.placed; given = a.given; text = t.1; success = t.0 }
+
   done-work : (c : Command) → EndsWork start last c result → (result ≡ 0) ⊎ (result ≡ 1) → IsDone holds sent old new c result
   done-work (ToRun c) w d = done-run c w w.ran d
   done-work ToImage w d = done-text Ram rom w.sends d
   done-work (ToPrint name) w d = done-print name w d
+  done-work (ToAssemble name) w d = done-assemble name w d
 
   pub is-done : (c : Command) → Ends start last c result → (result ≡ 0) ⊎ (result ≡ 1) → IsDone holds sent old new c result
   is-done c (ByWork w) d = done-work c w d
-  is-done c (ByRefusal r) d = not-done result (let high : 3 ≤ result = refusal-high r.refusal result (said holds sent loads sends old new c result r) in omega (arith, high)) d
+  is-done c (ByRefusal r) d = not-done result (let high = (refusal-high r.refusal result (said holds sent loads sends old new c result r)).0 in omega (arith, high)) d
 
   text-decides : (out : Out) (text : List ℕ) → MakesText (sent old) (sent new) (sends old) (sends new) out text result → (result ≡ 0) ⊎ ((result ≡ 6) ⊎ (result ≡ 7))
   text-decides out text m = text-status (sent old) (sent new) (sends old) (sends new) out text result m
@@ -179,11 +196,13 @@ module _ {H : Type 0} (holds : H → List ℕ → Option (List ℕ)) (sent : H �
   work-decides (ToRun c) w = answers-inputs (holds old) (loads old) (loads new) c result w.inputs w.given (work-status holds sent loads sends old new (ToRun c) result w)
   work-decides ToImage w = image-decides (text-decides Ram rom w.sends)
   work-decides (ToPrint name) w = answers-program (holds old) (loads old) (loads new) name result w.exe w.given (text-decides Tty (printing w.exe) w.text.sends)
+  work-decides (ToAssemble name) w = answers-text (holds old) (loads old) (loads new) name result w.placed w.given (text-decides Ram (assembling w.placed) w.text.sends)
 
   refusal-decides : (c : Command) (refusal : Refusal) → Causes (holds old) (loads old) (loads new) c refusal → (result ≡ refusals.status_of refusal) ⊎ (result ≡ 6) → Decides (holds old) c result
   refusal-decides (ToRun c) refusal cause e = answers-refusal (holds old) (loads old) (loads new) c result refusal cause e
   refusal-decides ToImage refusal cause e = absurd cause
   refusal-decides (ToPrint name) refusal cause e = answers-no_program (holds old) (loads old) (loads new) name result refusal cause e
+  refusal-decides (ToAssemble name) refusal cause e = answers-no_text (holds old) (loads old) (loads new) name result refusal cause e
 
   pub decides : (c : Command) → Ends start last c result → Decides (holds old) c result
   decides c (ByWork w) = work-decides c w
@@ -193,6 +212,7 @@ module _ {H : Type 0} (holds : H → List ℕ → Option (List ℕ)) (sent : H �
   part-work (ToRun c) w = record { inputs = w.inputs; given = w.given; texts = w.fronts }
   part-work ToImage w = w.front
   part-work (ToPrint name) w = record { exe = w.exe; given = w.given; text = w.text.front }
+  part-work (ToAssemble name) w = record { placed = w.placed; given = w.given; text = w.text.front }
 
   pub in-part : (c : Command) → Ends start last c result → SentInPart holds sent old new c
   in-part c (ByWork w) = InWork (part-work c w)

@@ -12,6 +12,10 @@ pub mod ConfigAnswer
 pub mod ConfigProgress
 pub mod Loading
 pub mod PrintedWords
+pub mod SameText
+pub mod PlacedBytes
+pub mod Windowed
+pub mod TextLines
 pub mod KernelRuns
 pub mod SameAnswer
 pub mod Statuses

@@ -8,9 +8,9 @@ use Rattle.psx_sched.specs.declared.fault.SchedError.{SchedError}
 use Rattle.psx_exe.specs.declared.exe.Exe.{Exe}
 use Rattle.psxk_run.specs.declared.configuration.ConfError.{ConfError}
 use Rattle.psxk_run.specs.declared.refusal.Refusal.{Refusal}
-use Rattle.psxk_run.specs.declared.refusal.Refusal.TheVariants.{Program, Schedule, Config, Unread, Memory}
+use Rattle.psxk_run.specs.declared.refusal.Refusal.TheVariants.{Program, Schedule, Config, Unread, Memory, Text}
 use Rattle.psxk_run.specs.Command.{RunWords}
-use Rattle.psxk_run.specs.Inputs.{IsLoaded, GivesProgram, GivesEntries, GivesSchedule, GivesNumbers, GivesSizes, IsCause, OfProgram, OfSchedule, OfSizes, Names}
+use Rattle.psxk_run.specs.Inputs.{IsLoaded, GivesProgram, GivesEntries, GivesSchedule, GivesNumbers, GivesSizes, IsCause, OfProgram, OfSchedule, OfSizes, Names, OfText}
 use Rattle.psxk_run.proofs.GoingOn.{rose-since}
 
 -- what a later moment's host holds, an earlier one's does
@@ -78,6 +78,7 @@ cause-later held before now later c (Unread name) up cause = (cause.0, rose-unti
 cause-later held before now later c (Program fault) up cause = cause
 cause-later held before now later c (Schedule fault) up cause = cause
 cause-later held before now later c (Config fault) up cause = cause
+cause-later held before now later c (Text fault) up cause = cause
 cause-later held before now later c Memory up cause = cause
 
 pub program-later : (held : List ℕ → Option (List ℕ)) (before now later : List ℕ → ℕ) (name : List ℕ) (refusal : Refusal) → ((n : List ℕ) → now n ≤ later n) → OfProgram held before now name refusal → OfProgram held before later name refusal
@@ -85,3 +86,9 @@ program-later held before now later name (Program fault) up cause = cause
 program-later held before now later name (Unread other) up cause = (cause.0, rose-until (before name) (now name) (later name) cause.1 (up name))
 program-later held before now later name Memory up cause = cause
 program-later held before now later name _ up cause = absurd cause
+
+pub text-later : (held : List ℕ → Option (List ℕ)) (before now later : List ℕ → ℕ) (name : List ℕ) (refusal : Refusal) → ((n : List ℕ) → now n ≤ later n) → OfText held before now name refusal → OfText held before later name refusal
+text-later held before now later name (Text fault) up cause = cause
+text-later held before now later name (Unread other) up cause = (cause.0, rose-until (before name) (now name) (later name) cause.1 (up name))
+text-later held before now later name Memory up cause = cause
+text-later held before now later name _ up cause = absurd cause

@@ -11,12 +11,16 @@ use Rattle.psx_exe.specs.Reading.{read_of}
 use Rattle.psxk_run.specs.declared.configuration.ConfError.{ConfError}
 use Rattle.psxk_run.specs.declared.inputs.Inputs.{Inputs}
 use Rattle.psxk_run.specs.declared.refusal.Refusal.{Refusal}
-use Rattle.psxk_run.specs.declared.refusal.Refusal.TheVariants.{Program, Schedule, Config, Unread, Memory}
+use Rattle.psxk_run.specs.declared.refusal.Refusal.TheVariants.{Program, Schedule, Config, Unread, Memory, Text}
 use Rattle.psxk_run.specs.Command.{RunWords}
-use Rattle.psxk_run.specs.Commands.{IsHindered, Answers, AnswersProgram}
-use Rattle.psxk_run.specs.Inputs.{IsLoaded, IsTold, GivesProgram, GivesEntries, GivesSchedule, GivesNumbers, GivesSizes, GivesAll, Gives, IsCause, OfProgram}
+use Rattle.psxk_run.specs.Commands.{IsHindered, Answers, AnswersProgram, AnswersText}
+use Rattle.psxk_run.specs.Inputs.{IsLoaded, IsTold, GivesProgram, GivesEntries, GivesSchedule, GivesNumbers, GivesSizes, GivesAll, Gives, IsCause, OfProgram, GivesPlaced, OfText}
 use Rattle.psxk_run.specs.Refusals.{status_of}
 use Rattle.psxk_run.proofs.ConfigAnswer as configurations
+use Rattle.psxk_run.proofs.SameText as texts
+use Rattle.psxk_run.specs.Assembling.{window_from, window_to}
+use Rattle.psx_asm.specs.declared.fault.AsmError.{AsmError}
+use Rattle.psx_asm.specs.Assembly.{Placed}
 
 told-loaded : (held : List ℕ → Option (List ℕ)) (limit : ℕ) (name a b : List ℕ) → IsTold held limit name a → IsLoaded held limit name b → a ≡ b
 told-loaded held limit name a b t l = t.first ∙ sym (subst (λ (o : Option (List ℕ)). IsFront limit o b) t.told l)
@@ -63,6 +67,7 @@ module _ (held : List ℕ → Option (List ℕ)) (before now : List ℕ → ℕ)
   answers-inputs inputs g run (Err (Program fault)) t = ok-err (sym (program-same held c.name (Err fault) (Ok inputs.exe) t g.program))
   answers-inputs inputs g run (Err (Schedule fault)) t = ok-err (sym (schedule-same held c.schedule (Err fault) (Ok inputs.schedule) t.fails g.schedule))
   answers-inputs inputs g run (Err (Config fault)) t = ok-err (sym (sizes-same held c.config (Err fault) (Ok inputs.sizes) t.fails g.sizes))
+  answers-inputs inputs g run (Err (Text fault)) t = absurd t
   answers-inputs inputs g run (Err (Unread name)) t = absurd t
   answers-inputs inputs g run (Err Memory) t = absurd t
 
@@ -78,20 +83,24 @@ module _ (held : List ℕ → Option (List ℕ)) (before now : List ℕ → ℕ)
   answers-refusal (Program fault) cause (inl e) (Err (Program other)) t = inl e
   answers-refusal (Program fault) cause (inl e) (Err (Schedule other)) t = ok-err (program-same held c.name (Ok t.exe) (Err fault) t.program cause)
   answers-refusal (Program fault) cause (inl e) (Err (Config other)) t = ok-err (program-same held c.name (Ok t.exe) (Err fault) t.program cause)
+  answers-refusal (Program fault) cause (inl e) (Err (Text other)) t = absurd t
   answers-refusal (Program fault) cause (inl e) (Err (Unread name)) t = absurd t
   answers-refusal (Program fault) cause (inl e) (Err Memory) t = absurd t
   answers-refusal (Schedule fault) cause (inl e) (Ok inputs) t = ok-err (schedule-same held c.schedule (Ok inputs.schedule) (Err fault) t.schedule cause.fails)
   answers-refusal (Schedule fault) cause (inl e) (Err (Program other)) t = ok-err (sym (program-same held c.name (Err other) (Ok cause.exe) t cause.program))
   answers-refusal (Schedule fault) cause (inl e) (Err (Schedule other)) t = inl e
   answers-refusal (Schedule fault) cause (inl e) (Err (Config other)) t = ok-err (schedule-same held c.schedule (Ok t.entries) (Err fault) t.schedule cause.fails)
+  answers-refusal (Schedule fault) cause (inl e) (Err (Text other)) t = absurd t
   answers-refusal (Schedule fault) cause (inl e) (Err (Unread name)) t = absurd t
   answers-refusal (Schedule fault) cause (inl e) (Err Memory) t = absurd t
   answers-refusal (Config fault) cause (inl e) (Ok inputs) t = ok-err (sizes-same held c.config (Ok inputs.sizes) (Err fault) t.sizes cause.fails)
   answers-refusal (Config fault) cause (inl e) (Err (Program other)) t = ok-err (sym (program-same held c.name (Err other) (Ok cause.exe) t cause.program))
   answers-refusal (Config fault) cause (inl e) (Err (Schedule other)) t = ok-err (sym (schedule-same held c.schedule (Err other) (Ok cause.entries) t.fails cause.schedule))
   answers-refusal (Config fault) cause (inl e) (Err (Config other)) t = inl e
+  answers-refusal (Config fault) cause (inl e) (Err (Text other)) t = absurd t
   answers-refusal (Config fault) cause (inl e) (Err (Unread name)) t = absurd t
   answers-refusal (Config fault) cause (inl e) (Err Memory) t = absurd t
+  answers-refusal (Text fault) cause (inl e) answer t = absurd cause
 
 -- what was told of a program's file
 module _ (held : List ℕ → Option (List ℕ)) (before now : List ℕ → ℕ) (name : List ℕ) (result : ℕ) where
@@ -112,3 +121,26 @@ module _ (held : List ℕ → Option (List ℕ)) (before now : List ℕ → ℕ)
   answers-no_program Memory cause (inl e) (Ok exe) t = inr (inr (inr e))
   answers-no_program Memory cause (inl e) (Err fault) t = inr (inr (inr e))
   answers-no_program _ cause (inl e) answer t = absurd cause
+
+-- what was told of an assembly text's file
+module _ (held : List ℕ → Option (List ℕ)) (before now : List ℕ → ℕ) (name : List ℕ) (result : ℕ) where
+  placed-same : (a b : Result Placed AsmError) → GivesPlaced (IsTold held) name a → GivesPlaced (IsLoaded held) name b → a ≡ b
+  placed-same a b t l = texts.one_answer l.text window_from window_to a b (rw (← told-loaded held 4194305 name t.text l.text t.known l.known) t.is) l.is
+
+  -- a text that was assembled
+  pub answers-text : (placed : Placed) → GivesPlaced (IsLoaded held) name (Ok placed) → (result ≡ 0) ⊎ ((result ≡ 6) ⊎ (result ≡ 7)) → (answer : Result Placed AsmError) → GivesPlaced (IsTold held) name answer → AnswersText answer result
+  answers-text placed g (inl e) (Ok other) t = inl e
+  answers-text placed g (inr e) (Ok other) t = inr (hindered result e)
+  answers-text placed g e (Err fault) t = ok-err (sym (placed-same (Err fault) (Ok placed) t g))
+
+  -- a refusal with its cause
+  pub answers-no_text : (refusal : Refusal) → OfText held before now name refusal → (result ≡ status_of refusal) ⊎ (result ≡ 6) → (answer : Result Placed AsmError) → GivesPlaced (IsTold held) name answer → AnswersText answer result
+  answers-no_text refusal cause (inr six) (Ok placed) t = inr (inr (inl six))
+  answers-no_text refusal cause (inr six) (Err fault) t = inr (inr (inl six))
+  answers-no_text (Text fault) cause (inl e) (Ok placed) t = ok-err (placed-same (Ok placed) (Err fault) t cause)
+  answers-no_text (Text fault) cause (inl e) (Err other) t = inl e
+  answers-no_text (Unread other) cause (inl e) (Ok placed) t = inr (inl e)
+  answers-no_text (Unread other) cause (inl e) (Err fault) t = inr (inl e)
+  answers-no_text Memory cause (inl e) (Ok placed) t = inr (inr (inr e))
+  answers-no_text Memory cause (inl e) (Err fault) t = inr (inr (inr e))
+  answers-no_text _ cause (inl e) answer t = absurd cause

@@ -1,12 +1,12 @@
 -- Which statuses a command ends with.
-use Rattle.std.proofs.Common.{◌≡◌, ◌⊎◌, ℕ, ◌≤◌, List, Option, inl, inr, arith}
+use Rattle.std.proofs.Common.{◌≡◌, ◌⊎◌, ℕ, ◌≤◌, List, Option, inl, inr, arith, ◌<◌}
 use Rattle.psx_base.specs.declared.host.Out.{Out}
 use Rattle.psx_base.specs.declared.host.Out.TheVariants.{Report}
 use Rattle.psx_base.specs.Host.{Rose}
 use Rattle.psx_board.specs.Run.{Outcome}
 use Rattle.psxk_run.specs.declared.refusal.Refusal.{Refusal}
-use Rattle.psxk_run.specs.declared.refusal.Refusal.TheVariants.{Program, Schedule, Config, Unread, Memory}
-use Rattle.psxk_run.specs.Command.{Command, ToRun, ToImage, ToPrint}
+use Rattle.psxk_run.specs.declared.refusal.Refusal.TheVariants.{Program, Schedule, Config, Unread, Memory, Text}
+use Rattle.psxk_run.specs.Command.{Command, ToRun, ToImage, ToPrint, ToAssemble}
 use Rattle.psxk_run.specs.Ends.{Moment, EndsWork}
 use Rattle.psxk_run.specs.Refusals as refusals
 use Rattle.psxk_run.specs.Reports.{memory_line}
@@ -33,6 +33,7 @@ pub carried : (old new : Moment) (c : Command) (status : ℕ) → EndsWork old n
 carried old new (ToRun c) status w = carried-run old.sent new.sent old.sends new.sends _ status w.ran
 carried old new ToImage status w = carried-text old.sent new.sent old.sends new.sends _ _ status w.sends
 carried old new (ToPrint name) status w = carried-text old.sent new.sent old.sends new.sends _ _ status w.text.sends
+carried old new (ToAssemble name) status w = carried-text old.sent new.sent old.sends new.sends _ _ status w.text.sends
 
 -- so its status is 0, 1, 6 or 7
 pub carried-status : (before now : Out → Option (List ℕ)) (fb fn status : ℕ) → Carried before now fb fn status → (status ≤ 1) ⊎ ((status ≡ 6) ⊎ (status ≡ 7))
@@ -64,47 +65,45 @@ module _ (before now : Out → Option (List ℕ)) (fb fn status : ℕ) where
   carried-five (inr (inr failed)) e = absurd (omega (arith, failed.0, e))
 
 pub listed-run : (result : ℕ) → (result ≤ 1) ⊎ ((result ≡ 6) ⊎ (result ≡ 7)) → IsStatus result
-listed-run result (inl low) = inl (omega (arith, low))
-listed-run result (inr (inl e)) = inl (omega (arith, e))
-listed-run result (inr (inr e)) = inl (omega (arith, e))
+listed-run result (inl low) = omega (arith, low)
+listed-run result (inr (inl e)) = omega (arith, e)
+listed-run result (inr (inr e)) = omega (arith, e)
 
-pub listed-refusal : (r : Refusal) (result : ℕ) → (result ≡ refusals.status_of r) ⊎ (result ≡ 6) → IsStatus result
-listed-refusal r result (inr e) = inl (omega (arith, e))
-listed-refusal (Program fault) result (inl e) = inl (omega (arith, e))
-listed-refusal (Schedule fault) result (inl e) = inl (omega (arith, e))
-listed-refusal (Config fault) result (inl e) = inr e
-listed-refusal (Unread name) result (inl e) = inl (omega (arith, e))
-listed-refusal Memory result (inl e) = inl (omega (arith, e))
+-- a refusal's status is no run's, and is listed
+refusal-range : (r : Refusal) → (3 ≤ refusals.status_of r) × (refusals.status_of r ≤ 9)
+refusal-range (Program fault) = (omega arith, omega arith)
+refusal-range (Schedule fault) = (omega arith, omega arith)
+refusal-range (Config fault) = (omega arith, omega arith)
+refusal-range (Text fault) = (omega arith, omega arith)
+refusal-range (Unread name) = (omega arith, omega arith)
+refusal-range Memory = (omega arith, omega arith)
 
--- a refusal's status is no run's
-pub refusal-high : (r : Refusal) (result : ℕ) → (result ≡ refusals.status_of r) ⊎ (result ≡ 6) → 3 ≤ result
-refusal-high r result (inr e) = omega (arith, e)
-refusal-high (Program fault) result (inl e) = omega (arith, e)
-refusal-high (Schedule fault) result (inl e) = omega (arith, e)
-refusal-high (Config fault) result (inl e) = omega (arith, e)
-refusal-high (Unread name) result (inl e) = omega (arith, e)
-refusal-high Memory result (inl e) = omega (arith, e)
+pub refusal-high : (r : Refusal) (result : ℕ) → (result ≡ refusals.status_of r) ⊎ (result ≡ 6) → (3 ≤ result) × (result ≤ 9)
+refusal-high r result (inr e) = (omega (arith, e), omega (arith, e))
+refusal-high r result (inl e) = rw e (refusal-range r)
 
 pub not-done : {P : Type 0} (result : ℕ) → 2 ≤ result → (result ≡ 0) ⊎ (result ≡ 1) → P
 not-done result high (inl e) = absurd (omega (arith, high, e))
 not-done result high (inr e) = absurd (omega (arith, high, e))
 
--- neither 0, 1, 6 nor 7 is a file's fault
+-- neither 0, 1, 5, 6 nor 7 is a file's fault
+faulty-range : (result : ℕ) → IsFaulty result → (2 < result) × ((result < 5) ⊎ (7 < result))
+faulty-range result (inl e) = (omega (arith, e), inl (omega (arith, e)))
+faulty-range result (inr (inl e)) = (omega (arith, e), inl (omega (arith, e)))
+faulty-range result (inr (inr (inl e))) = (omega (arith, e), inr (omega (arith, e)))
+faulty-range result (inr (inr (inr e))) = (omega (arith, e), inr (omega (arith, e)))
+
+outside : {P : Type 0} (result : ℕ) → 5 ≤ result → result ≤ 7 → (result < 5) ⊎ (7 < result) → P
+outside result low high (inl below) = absurd (omega (arith, low, below))
+outside result low high (inr above) = absurd (omega (arith, high, above))
+
 pub not-faulty : {P : Type 0} (result : ℕ) → (result ≤ 1) ⊎ ((result ≡ 6) ⊎ (result ≡ 7)) → IsFaulty result → P
-not-faulty result (inl low) (inl e) = absurd (omega (arith, low, e))
-not-faulty result (inl low) (inr (inl e)) = absurd (omega (arith, low, e))
-not-faulty result (inl low) (inr (inr e)) = absurd (omega (arith, low, e))
-not-faulty result (inr (inl six)) (inl e) = absurd (omega (arith, six, e))
-not-faulty result (inr (inl six)) (inr (inl e)) = absurd (omega (arith, six, e))
-not-faulty result (inr (inl six)) (inr (inr e)) = absurd (omega (arith, six, e))
-not-faulty result (inr (inr seven)) (inl e) = absurd (omega (arith, seven, e))
-not-faulty result (inr (inr seven)) (inr (inl e)) = absurd (omega (arith, seven, e))
-not-faulty result (inr (inr seven)) (inr (inr e)) = absurd (omega (arith, seven, e))
+not-faulty result (inl low) f = absurd (let some = (faulty-range result f).0 in omega (arith, low, some))
+not-faulty result (inr (inl e)) f = outside result (omega (arith, e)) (omega (arith, e)) (faulty-range result f).1
+not-faulty result (inr (inr e)) f = outside result (omega (arith, e)) (omega (arith, e)) (faulty-range result f).1
 
 pub five-faulty : {P : Type 0} (result : ℕ) → result ≡ 5 → IsFaulty result → P
-five-faulty result five (inl e) = absurd (omega (arith, five, e))
-five-faulty result five (inr (inl e)) = absurd (omega (arith, five, e))
-five-faulty result five (inr (inr e)) = absurd (omega (arith, five, e))
+five-faulty result e f = outside result (omega (arith, e)) (omega (arith, e)) (faulty-range result f).1
 
 -- a command that was carried out and is quiet wanted memory
 pub carried-quiet : (before now : Out → Option (List ℕ)) (fb fn status : ℕ) → Carried before now fb fn status → IsQuiet status → OnlyReports before now

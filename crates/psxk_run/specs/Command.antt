@@ -25,6 +25,7 @@ pub data Command : Type 0 where
   ToRun : RunWords → Command
   ToImage : Command
   ToPrint : (name : List ℕ) → Command
+  ToAssemble : (name : List ℕ) → Command
 
 -- the word `-` is the empty schedule, and loads nothing
 abbrev pub schedule_of : List ℕ → Option (List ℕ)
@@ -34,9 +35,9 @@ schedule_of word = if bytes_eq word (codes "-") then None else Some word
 abbrev pub alone : List ℕ → Option Command
 alone word = if bytes_eq word (codes "image") then Some ToImage else None
 
--- two words: `dis EXE`
+-- two words: `dis EXE` and `asm TEXT`
 abbrev pub with_name : List ℕ → List ℕ → Option Command
-with_name word name = if bytes_eq word (codes "dis") then Some (ToPrint name) else None
+with_name word name = if bytes_eq word (codes "dis") then Some (ToPrint name) else (if bytes_eq word (codes "asm") then Some (ToAssemble name) else None)
 
 abbrev pub asked : List ℕ → List ℕ → Option (List ℕ) → Option ℕ → Option Command
 asked name schedule config None = None

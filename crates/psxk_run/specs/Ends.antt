@@ -6,15 +6,17 @@ use Rattle.psxk_run.specs.declared.inputs.Inputs.{Inputs}
 use Rattle.psxk_run.specs.declared.refusal.Refusal.{Refusal}
 use Rattle.psx_exe.specs.declared.exe.Exe.{Exe}
 use Rattle.kern_image.specs.Rom.{rom}
-use Rattle.psxk_run.specs.Command.{RunWords, Command, ToRun, ToImage, ToPrint}
+use Rattle.psxk_run.specs.Command.{RunWords, Command, ToRun, ToImage, ToPrint, ToAssemble}
 use Rattle.psxk_run.specs.Commands.{Causes}
-use Rattle.psxk_run.specs.Inputs.{IsLoaded, GivesAll, GivesProgram}
+use Rattle.psxk_run.specs.Inputs.{IsLoaded, GivesAll, GivesProgram, GivesPlaced}
 use Rattle.psxk_run.specs.Printing.{printing}
 use Rattle.psxk_run.specs.Refusals.{line_of, status_of}
 use Rattle.psxk_run.specs.Reports.{memory_line}
 use Rattle.psxk_run.specs.Sent.{GrewFront, OnlyReports, Says}
 use Rattle.psxk_run.specs.Top.{run_of, IsKernelRun, RunsProgram, MakesText}
 use Rattle.psxk_run.specs.InPart.{HasFronts, ReportsFront, TextInPart}
+use Rattle.psxk_run.specs.Assembling.{assembling}
+use Rattle.psx_asm.specs.Assembly.{Placed}
 
 -- what contracts see of a host at a moment
 pub record Moment : Type 0 where
@@ -45,11 +47,18 @@ pub record EndsPrinting (old new : Moment) (name : List ℕ) (status : ℕ) : Ty
   pub given : GivesProgram (IsLoaded old.holds) name (Ok exe)
   pub text : EndsText old new Tty (printing exe) status
 
+-- the program of an assembly text
+pub record EndsAssembling (old new : Moment) (name : List ℕ) (status : ℕ) : Type 0 where
+  pub placed : Placed
+  pub given : GivesPlaced (IsLoaded old.holds) name (Ok placed)
+  pub text : EndsText old new Ram (assembling placed) status
+
 -- a command that was carried out
 abbrev pub EndsWork : Moment → Moment → Command → ℕ → Type 0
 EndsWork old new (ToRun c) status = EndsRun old new c status
 EndsWork old new ToImage status = EndsText old new Ram rom status
 EndsWork old new (ToPrint name) status = EndsPrinting old new name status
+EndsWork old new (ToAssemble name) status = EndsAssembling old new name status
 
 -- a refusal and its report
 pub record EndsRefused (old new : Moment) (c : Command) (status : ℕ) : Type 0 where

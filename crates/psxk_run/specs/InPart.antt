@@ -7,15 +7,17 @@ use Rattle.psxk_run.specs.declared.inputs.Inputs.{Inputs}
 use Rattle.psxk_run.specs.declared.refusal.Refusal.{Refusal}
 use Rattle.psx_exe.specs.declared.exe.Exe.{Exe}
 use Rattle.kern_image.specs.Rom.{rom}
-use Rattle.psxk_run.specs.Command.{RunWords, Command, ToRun, ToImage, ToPrint}
+use Rattle.psxk_run.specs.Command.{RunWords, Command, ToRun, ToImage, ToPrint, ToAssemble}
 use Rattle.psxk_run.specs.Commands.{Loads, Refuses}
-use Rattle.psxk_run.specs.Inputs.{IsLoaded, GivesAll, GivesProgram}
+use Rattle.psxk_run.specs.Inputs.{IsLoaded, GivesAll, GivesProgram, GivesPlaced}
 use Rattle.psxk_run.specs.Refusals.{line_of}
 use Rattle.psxk_run.specs.Printing.{printing}
 use Rattle.psxk_run.specs.Sent.{Grew, GrewFront, OnlyReports, FrontAlone}
 use Rattle.psxk_run.specs.Texts.{trace_text, ram_text, report_of}
 use Rattle.psxk_run.specs.Reports.{memory_line, read_line, usage_line}
 use Rattle.psxk_run.specs.Top.{run_of}
+use Rattle.psxk_run.specs.Assembling.{assembling}
+use Rattle.psx_asm.specs.Assembly.{Placed}
 
 -- of one line a front was reported, and nothing else was sent
 pub record ReportsFront (before now : Out → Option (List ℕ)) (line : List ℕ) : Type 0 where
@@ -46,11 +48,18 @@ pub record PrintedInPart {H : Type 0} (holds : H → List ℕ → Option (List �
   pub given : GivesProgram (IsLoaded (holds old)) name (Ok exe)
   pub text : TextInPart (sent old) (sent new) Tty (printing exe)
 
+-- the assembly text was loaded and accepted, and of its PS-EXE a front was sent
+pub record AssembledInPart {H : Type 0} (holds : H → List ℕ → Option (List ℕ)) (sent : H → Out → Option (List ℕ)) (old new : H) (name : List ℕ) : Type 0 where
+  pub placed : Placed
+  pub given : GivesPlaced (IsLoaded (holds old)) name (Ok placed)
+  pub text : TextInPart (sent old) (sent new) Ram (assembling placed)
+
 -- what is sent of a command that isn't refused
 abbrev pub DoneInPart : {H : Type 0} → (H → List ℕ → Option (List ℕ)) → (H → Out → Option (List ℕ)) → H → H → Command → Type 0
 DoneInPart holds sent old new (ToRun c) = RanInPart holds sent old new c
 DoneInPart holds sent old new ToImage = TextInPart (sent old) (sent new) Ram rom
 DoneInPart holds sent old new (ToPrint name) = PrintedInPart holds sent old new name
+DoneInPart holds sent old new (ToAssemble name) = AssembledInPart holds sent old new name
 
 -- the files that were loaded have a fault, and of its line a front was reported
 pub record RefusedInPart {H : Type 0} (holds : H → List ℕ → Option (List ℕ)) (sent : H → Out → Option (List ℕ)) (old new : H) (c : Command) : Type 0 where

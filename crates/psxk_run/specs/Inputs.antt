@@ -8,11 +8,14 @@ use Rattle.psx_sched.specs.Accepted.{IsScheduleOf}
 use Rattle.psx_exe.specs.declared.exe.Exe.{Exe}
 use Rattle.psx_exe.specs.declared.fault.ExeError.{ExeError}
 use Rattle.psx_exe.specs.Reading.{read_of}
+use Rattle.psx_asm.specs.declared.fault.AsmError.{AsmError}
+use Rattle.psx_asm.specs.Assembly.{Placed, IsAssemblyOf}
 use Rattle.abs_run.specs.Accepted.{IsAccepted, AreBytes}
 use Rattle.psxk_run.specs.declared.configuration.ConfError.{ConfError}
 use Rattle.psxk_run.specs.declared.inputs.Inputs.{Inputs}
 use Rattle.psxk_run.specs.declared.refusal.Refusal.{Refusal}
-use Rattle.psxk_run.specs.declared.refusal.Refusal.TheVariants.{Program, Schedule, Config, Unread, Memory}
+use Rattle.psxk_run.specs.declared.refusal.Refusal.TheVariants.{Program, Schedule, Config, Text, Unread, Memory}
+use Rattle.psxk_run.specs.Assembling.{window_from, window_to}
 use Rattle.psxk_run.specs.Config.{IsConfigOf}
 use Rattle.psxk_run.specs.Command.{RunWords}
 
@@ -88,6 +91,7 @@ Gives Known c (Ok inputs) = GivesAll Known c inputs
 Gives Known c (Err (Program fault)) = GivesProgram Known c.name (Err fault)
 Gives Known c (Err (Schedule fault)) = FailsSchedule Known c fault
 Gives Known c (Err (Config fault)) = FailsConfig Known c fault
+Gives Known c (Err (Text fault)) = ⊥
 Gives Known c (Err (Unread name)) = ⊥
 Gives Known c (Err Memory) = ⊥
 
@@ -107,6 +111,12 @@ pub record IsRunnable (inputs : Inputs) : Type 0 where
   pub bytes : AreBytes inputs.schedule
   pub threads : (4 ≤ inputs.sizes.threads) × (inputs.sizes.threads ≤ 16)
   pub events : (16 ≤ inputs.sizes.events) × (inputs.sizes.events ≤ 64)
+
+-- what an assembly text places in the window, or its first fault
+pub record GivesPlaced (Known : IsKnown) (name : List ℕ) (answer : Result Placed AsmError) : Type 0 where
+  pub text : List ℕ
+  pub known : Known 4194305 name text
+  pub is : IsAssemblyOf text window_from window_to answer
 
 -- ---- one load at a time
 
@@ -132,3 +142,8 @@ abbrev pub OfSizes : (List ℕ → Option (List ℕ)) → (before now : List ℕ
 OfSizes held before now None refusal = ⊥
 OfSizes held before now (Some name) (Config fault) = GivesNumbers (IsLoaded held) name (Err fault)
 OfSizes held before now (Some name) refusal = IsUnreadOf before now name refusal
+
+-- what a text places
+abbrev pub OfText : (List ℕ → Option (List ℕ)) → (before now : List ℕ → ℕ) → List ℕ → Refusal → Type 0
+OfText held before now name (Text fault) = GivesPlaced (IsLoaded held) name (Err fault)
+OfText held before now name refusal = IsUnreadOf before now name refusal

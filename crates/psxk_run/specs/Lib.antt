@@ -10,6 +10,8 @@ pub mod Reports
 pub mod Inputs
 pub mod Refusals
 pub mod Printing
+pub mod TextParts
+pub mod Assembling
 pub mod Commands
 pub mod Top
 pub mod InPart

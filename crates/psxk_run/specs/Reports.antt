@@ -7,6 +7,10 @@ use Rattle.psx_sched.specs.declared.fault.SchedError.{SchedError}
 use Rattle.psx_sched.specs.declared.fault.SchedError.TheVariants.{TooLong as SchedTooLong, BadLine, OutOfOrder, TooMany, Memory as SchedMemory}
 use Rattle.psxk_run.specs.declared.configuration.ConfError.{ConfError}
 use Rattle.psxk_run.specs.declared.configuration.ConfError.TheVariants.{TooLong as ConfTooLong, BadLine as ConfBadLine, Range}
+use Rattle.psx_asm.specs.declared.fault.AsmFault.{AsmFault}
+use Rattle.psx_asm.specs.declared.fault.AsmFault.TheVariants.{BadToken, UnknownWord, BadOperand, Twice, NoLabel, Range as AsmRange, Overlap}
+use Rattle.psx_asm.specs.declared.fault.AsmError.{AsmError}
+use Rattle.psx_asm.specs.declared.fault.AsmError.TheVariants.{TooLong as AsmTooLong, Line, Memory as AsmMemory}
 use Rattle.psx_trace.specs.Digits.{field}
 use Rattle.psx_trace.specs.StopText.{stop_text}
 
@@ -46,6 +50,25 @@ config_error_text (Range line) = codes "Range " ++ decimal line
 
 abbrev pub config_line : ConfError → List ℕ
 config_line error = codes "psxk: config: " ++ (config_error_text error ++ codes "\n")
+
+-- what is wrong with a line of an assembly text, by its name and its field: a value in eight digits, or a label
+unfoldable pub asm_fault_text : AsmFault → List ℕ
+asm_fault_text BadToken = codes "BadToken"
+asm_fault_text UnknownWord = codes "UnknownWord"
+asm_fault_text BadOperand = codes "BadOperand"
+asm_fault_text (Twice label) = codes "Twice " ++ label
+asm_fault_text (NoLabel label) = codes "NoLabel " ++ label
+asm_fault_text (AsmRange value) = codes "Range" ++ field value
+asm_fault_text Overlap = codes "Overlap"
+
+-- what makes a text no assembly text
+unfoldable pub asm_error_text : AsmError → List ℕ
+asm_error_text (AsmTooLong limit) = codes "TooLong " ++ decimal limit
+asm_error_text (Line line fault) = codes "line " ++ (decimal line ++ (codes ": " ++ asm_fault_text fault))
+asm_error_text AsmMemory = codes "Memory"
+
+abbrev pub text_line : AsmError → List ℕ
+text_line error = codes "psxk: text: " ++ (asm_error_text error ++ codes "\n")
 
 -- the line of words that are in no command's form
 abbrev pub usage_line : List ℕ

@@ -2,10 +2,10 @@
 use Rattle.std.specs.Prelude.{List, ℕ, ◌<◌, Option}
 use Rattle.std.specs.Option.{option_map}
 use Rattle.std.specs.Borrow.{Bor}
-use Rattle.psxk_run.specs.Command.{RunWords, Command, ToRun, ToImage, ToPrint}
+use Rattle.psxk_run.specs.Command.{RunWords, Command, ToRun, ToImage, ToPrint, ToAssemble}
 use Rattle.psxk_run.specs.declared.command.Run.{Run}
 use Rattle.psxk_run.specs.declared.command.Request.{Request}
-use Rattle.psxk_run.specs.declared.command.Request.TheVariants.{Run as RunRequest, Image, Print}
+use Rattle.psxk_run.specs.declared.command.Request.TheVariants.{Run as RunRequest, Image, Print, Assemble}
 
 -- the bytes of a word, where there is one
 abbrev pub word_of : Option (Bor (List ℕ)) → Option (List ℕ)
@@ -18,6 +18,7 @@ abbrev pub told : Request → Command
 told (RunRequest r) = ToRun (told_run r)
 told Image = ToImage
 told (Print name) = ToPrint name.now
+told (Assemble name) = ToAssemble name.now
 
 -- a run's budget isn't 0
 abbrev pub HasBudget : Request → Type 0

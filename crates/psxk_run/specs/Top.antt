@@ -9,15 +9,17 @@ use Rattle.abs_run.specs.KernelRun.{KernelRun}
 use Rattle.kern_image.specs.Rom.{rom}
 use Rattle.psxk_run.specs.declared.inputs.Inputs.{Inputs}
 use Rattle.psxk_run.specs.declared.refusal.Refusal.{Refusal}
-use Rattle.psxk_run.specs.Command.{RunWords, Command, ToRun, ToImage, ToPrint}
+use Rattle.psxk_run.specs.Command.{RunWords, Command, ToRun, ToImage, ToPrint, ToAssemble}
 use Rattle.psxk_run.specs.Commands.{Loads, Refuses}
-use Rattle.psxk_run.specs.Inputs.{IsLoaded, GivesAll, GivesProgram}
+use Rattle.psxk_run.specs.Inputs.{IsLoaded, GivesAll, GivesProgram, GivesPlaced}
 use Rattle.psxk_run.specs.Refusals.{line_of}
 use Rattle.psxk_run.specs.Refusals as refusals
 use Rattle.psxk_run.specs.Printing.{printing}
 use Rattle.psxk_run.specs.Sent.{Grew, OnlyReports, SentAlone, SendsText}
 use Rattle.psxk_run.specs.Texts.{trace_text, ram_text, report_of, status_of}
 use Rattle.psxk_run.specs.Reports.{memory_line, read_line}
+use Rattle.psxk_run.specs.Assembling.{assembling}
+use Rattle.psx_asm.specs.Assembly.{Placed}
 
 -- each output has the text of this run more
 pub record HasTexts (before now : Out → Option (List ℕ)) (o : Outcome) : Type 0 where
@@ -49,11 +51,19 @@ pub record Printed {H : Type 0} (holds : H → List ℕ → Option (List ℕ)) (
   pub text : SentAlone (sent old) (sent new) Tty (printing exe)
   pub success : status ≡ 0
 
+-- the assembly text was loaded and accepted, and the PS-EXE of what it places was sent and nothing else
+pub record Assembled {H : Type 0} (holds : H → List ℕ → Option (List ℕ)) (sent : H → Out → Option (List ℕ)) (old new : H) (name : List ℕ) (status : ℕ) : Type 0 where
+  pub placed : Placed
+  pub given : GivesPlaced (IsLoaded (holds old)) name (Ok placed)
+  pub text : SentAlone (sent old) (sent new) Ram (assembling placed)
+  pub success : status ≡ 0
+
 -- what was done for a command: the run, or its text was sent and nothing else
 abbrev pub IsDone : {H : Type 0} → (H → List ℕ → Option (List ℕ)) → (H → Out → Option (List ℕ)) → H → H → Command → ℕ → Type 0
 IsDone holds sent old new (ToRun c) status = Ran holds sent old new c status
 IsDone holds sent old new ToImage status = (status ≡ 0) × SentAlone (sent old) (sent new) Ram rom
 IsDone holds sent old new (ToPrint name) status = Printed holds sent old new name status
+IsDone holds sent old new (ToAssemble name) status = Assembled holds sent old new name status
 
 -- the files that were loaded have a fault, and the first one was reported with its status
 pub record IsRefused {H : Type 0} (holds : H → List ℕ → Option (List ℕ)) (sent : H → Out → Option (List ℕ)) (old new : H) (c : Command) (status : ℕ) : Type 0 where
@@ -71,11 +81,11 @@ pub record IsUnread {H : Type 0} (load_faults : H → List ℕ → ℕ) (sent : 
 
 -- a status that is answered
 abbrev pub IsStatus : ℕ → Type 0
-IsStatus status = (status ≤ 7) ⊎ (status ≡ 9)
+IsStatus status = status ≤ 9
 
 -- a status of a fault in a file
 abbrev pub IsFaulty : ℕ → Type 0
-IsFaulty status = (status ≡ 3) ⊎ ((status ≡ 4) ⊎ (status ≡ 9))
+IsFaulty status = (status ≡ 3) ⊎ ((status ≡ 4) ⊎ ((status ≡ 8) ⊎ (status ≡ 9)))
 
 -- a status that comes with its report alone
 abbrev pub IsQuiet : ℕ → Type 0

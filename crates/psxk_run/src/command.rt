@@ -27,6 +27,8 @@ pub enum Request<'a> {
     Image,
     /// `dis`: the printed words of the program that is loaded by this name.
     Print(&'a str),
+    /// `asm`: the program of the assembly text that is loaded by this name.
+    Assemble(&'a str),
 }
 
 // The number that the digits give.
@@ -90,6 +92,8 @@ fn with_name<'a>(word: &str, name: &'a str) -> Option<Request<'a>>
 {
     if word == "dis" {
         Some(Request::Print(name))
+    } else if word == "asm" {
+        Some(Request::Assemble(name))
     } else {
         None
     }
@@ -132,7 +136,7 @@ fn with_files<'a>(
     }
 }
 
-/// What the words ask for: `run EXE SCHED BUDGET` or `run EXE SCHED BUDGET CNF`, `image` or `dis EXE`.
+/// What the words ask for: `run EXE SCHED BUDGET` or `run EXE SCHED BUDGET CNF`, `image`, `dis EXE` or `asm TEXT`.
 #[tactic(auto, unfolding(crate::specs::Command::command_of))]
 pub fn command<'a>(words: &[&'a str]) -> Option<Request<'a>>
     ensures asked { option_map told result ≡ command_of (words_of words.now) }

@@ -4,13 +4,18 @@ ghost use Rattle.psx_base.specs.Host.{Rose, IsFront};
 ghost use Rattle.psx_base.specs.declared.host.Out.{Out};
 ghost use Rattle.psx_exe.specs.Reading.{IsReadable};
 ghost use Rattle.abs_run.specs.Accepted.{IsAccepted, AreBytes};
-ghost use Rattle.psxk_run.specs.Inputs.{IsLoaded, GivesProgram, GivesSchedule, GivesSizes, GivesAll, IsCause, IsRunnable, IsUnreadOf, OfProgram, OfSchedule, OfSizes};
+ghost use Rattle.psxk_run.specs.Inputs.{IsLoaded, GivesProgram, GivesSchedule, GivesSizes, GivesAll, IsCause, IsRunnable, IsUnreadOf, OfProgram, OfSchedule, OfSizes, GivesPlaced, OfText};
 ghost use Rattle.psxk_run.specs.Sent.{GoesOn};
 ghost use Rattle.psxk_run.specs.Told.{told_run, word_of};
+ghost use Rattle.psxk_run.specs.Assembling.{AreInWindow};
+ghost use Rattle.psx_asm.specs.Placing.{bytes_of_parts};
+ghost use Rattle.psx_asm.specs.Assembly.{placed_by};
 
+use crate::assembling::{FROM, TO};
 use crate::command::Run;
 use crate::configuration::config;
 use crate::refusal::Refusal;
+use psx_asm::{AsmError, Object, assemble};
 use psx_base::{Host, LoadError, Sizes};
 use psx_exe::{Exe, ExeError};
 use psx_sched::{SchedError, Schedule};
@@ -141,6 +146,39 @@ fn load_schedule<'a, H: Host>(
     match Schedule::read(alloc, &text) {
         Ok(schedule) => Ok(schedule),
         Err(error) => Err(schedule_refusal(error)),
+    }
+}
+
+// Why a text gave no object.
+fn text_refusal<'a>(error: AsmError) -> Refusal<'a>
+    ensures { (error ≡ AsmError.Memory) × (result ≡ Refusal.Memory) ⊎ (error ≢ AsmError.Memory) × (result ≡ Refusal.Text error) }
+{
+    match error {
+        AsmError::Memory => Refusal::Memory,
+        AsmError::TooLong { .. } => Refusal::Text(error),
+        AsmError::Line { .. } => Refusal::Text(error),
+    }
+}
+
+/// Loads an assembly text, and assembles it in the window.
+pub(crate) fn load_text<'a, H: Host>(
+    alloc: Global,
+    host: &mut H,
+    name: &'a str,
+) -> Result<Object, Refusal<'a>>
+    ensures placed { IfOk result (λ object. GivesPlaced (IsLoaded (H.holds host.old)) name.now (Ok (placed_by object))) }
+    ensures window { IfOk result (λ object. AreInWindow (bytes_of_parts object.parts)) }
+    ensures cause { IfErr result (OfText (H.holds host.old) (H.load_faults host.old) (H.load_faults host.new) name.now) }
+    ensures sent { (o : Out) → H.sent host.new o ≡ H.sent host.old o }
+    ensures on { GoesOn H.holds H.load_faults H.send_faults host.old host.new }
+{
+    let text = match load(alloc, host, name, TEXT_LIMIT) {
+        Ok(text) => text,
+        Err(refusal) => return Err(refusal),
+    };
+    match assemble(alloc, &text, FROM, TO) {
+        Ok(object) => Ok(object),
+        Err(error) => Err(text_refusal(error)),
     }
 }
 

@@ -2,6 +2,7 @@
 //! A run's texts are those of the board's run of the image; the program `psxk` gives it a host over real files.
 #![tactic(auto)]
 
+mod assembling;
 pub mod command;
 pub mod configuration;
 pub mod inputs;

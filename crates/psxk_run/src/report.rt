@@ -3,11 +3,13 @@ ghost use Rattle.std.specs.Prelude.{◌≡◌, ◌≤◌, ◌+◌, ◌++◌, len
 ghost use Rattle.arrayvec.specs.ArrayVec.{array_vec_len};
 ghost use Rattle.psx_trace.specs.Digits.{field};
 ghost use Rattle.psx_trace.specs.StopText.{stop_text};
+ghost use Rattle.psxk_run.specs.TextParts.{fault_head, error_head, error_label};
 ghost use Rattle.psxk_run.specs.Reports.{exe_error_text, exe_line, schedule_error_text, schedule_line, config_error_text, config_line, stop_line};
 
 use crate::configuration::ConfError;
 use arrayvec::ArrayVec;
 use itoa::Buffer;
+use psx_asm::{AsmError, AsmFault};
 use psx_base::Stop;
 use psx_exe::ExeError;
 use psx_sched::SchedError;
@@ -15,7 +17,7 @@ use psx_trace::stop_text;
 use psx_trace::text::{put, put_field};
 
 /// The bytes of a line.
-pub type ReportLine = ArrayVec<u8, 80>;
+pub type ReportLine = ArrayVec<u8, 128>;
 
 // A name alone.
 fn named(name: &[u8]) -> ReportLine
@@ -129,6 +131,62 @@ pub(crate) fn config_line(error: ConfError) -> ReportLine
     ensures { result.items ≡ config_line error }
 {
     line_of(b"psxk: config: ", config_error_text(error).as_slice())
+}
+
+// The text of what is wrong with a line, up to its label.
+fn fault_head(fault: &AsmFault) -> ReportLine
+    ensures items { result.items ≡ fault_head fault.now }
+    ensures len { array_vec_len result ≤ 50 }
+{
+    match fault {
+        AsmFault::BadToken => named(b"BadToken"),
+        AsmFault::UnknownWord => named(b"UnknownWord"),
+        AsmFault::BadOperand => named(b"BadOperand"),
+        AsmFault::Twice { .. } => named(b"Twice "),
+        AsmFault::NoLabel { .. } => named(b"NoLabel "),
+        AsmFault::Range { value } => with_address(b"Range", *value),
+        AsmFault::Overlap => named(b"Overlap"),
+    }
+}
+
+// The text of what makes a text no assembly text, up to its label.
+fn error_head(error: &AsmError) -> ReportLine
+    ensures items { result.items ≡ error_head error.now }
+    ensures len { array_vec_len result ≤ 102 }
+{
+    match error {
+        AsmError::TooLong { limit } => with_number(b"TooLong ", *limit as u64),
+        AsmError::Line { line, fault } => {
+            let mut text = with_number(b"line ", *line as u64);
+            put(&mut text, b": ");
+            put(&mut text, fault_head(fault).as_slice());
+            text
+        }
+        AsmError::Memory => named(b"Memory"),
+    }
+}
+
+/// The front of the line that reports what makes a text no assembly text, up to its label.
+pub(crate) fn text_head(error: &AsmError) -> ReportLine
+    ensures { result.items ≡ codes "psxk: text: " ++ error_head error.now }
+{
+    let mut line = named(b"psxk: text: ");
+    put(&mut line, error_head(error).as_slice());
+    line
+}
+
+/// Its label; a fault without one has no bytes there.
+pub(crate) fn text_label(error: &AsmError) -> &[u8]
+    ensures { result.now ≡ error_label error.now }
+{
+    match error {
+        AsmError::Line { fault, .. } => match fault {
+            AsmFault::Twice { label } => label.as_slice(),
+            AsmFault::NoLabel { label } => label.as_slice(),
+            _ => &[],
+        },
+        _ => &[],
+    }
 }
 
 /// The line that reports a stop.

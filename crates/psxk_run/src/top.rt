@@ -1,5 +1,5 @@
 //! The top call: all that the program does.
-ghost use Rattle.std.specs.Prelude.{◌≡◌, false, ◌⊎◌, ◌<◌, IfSome, IsNone};
+ghost use Rattle.std.specs.Prelude.{◌≡◌, false, ◌⊎◌, ◌<◌, IfSome, IsNone, ◌≤◌, All};
 ghost use Rattle.psx_base.specs.Host.{Rose};
 ghost use Rattle.psx_base.specs.declared.host.Out.{Out};
 ghost use Rattle.psx_board.specs.Machine.{Machine};
@@ -7,7 +7,7 @@ ghost use Rattle.psx_board.specs.Run.{run};
 ghost use Rattle.psx_board.specs.Stands.{Stands};
 ghost use Rattle.kern_image.specs.Rom.{rom};
 ghost use Rattle.abs_run.specs.Accepted.{IsAccepted};
-ghost use Rattle.psxk_run.specs.Command.{command_of, ToRun, ToPrint};
+ghost use Rattle.psxk_run.specs.Command.{command_of, ToRun, ToPrint, ToAssemble};
 ghost use Rattle.psxk_run.specs.Commands.{Decides};
 ghost use Rattle.psxk_run.specs.Printing.{printing};
 ghost use Rattle.psxk_run.specs.Ends.{Ends, moment};
@@ -19,15 +19,20 @@ ghost use Rattle.psxk_run.specs.Texts.{report_of, status_of};
 ghost use Rattle.psxk_run.specs.Told.{told, told_run, HasBudget};
 ghost use Rattle.psxk_run.specs.Top.{IsDone, IsRefused, IsUnread, IsFaulty, IsQuiet, IsStatus, RunsBoard, RunsProgram, MakesText, run_of};
 ghost use Rattle.psxk_run.specs.Words.{words_of, IfCommand};
+ghost use Rattle.psxk_run.specs.Assembling.{AreInWindow, assembling};
+ghost use Rattle.psx_asm.specs.Placing.{bytes_of_parts};
+ghost use Rattle.psx_asm.specs.Assembly.{placed_by};
 
+use crate::assembling::assembling;
 use crate::command::{Request, Run, command};
-use crate::inputs::{Inputs, load_exe, prepare};
+use crate::inputs::{Inputs, load_exe, load_text, prepare};
 use crate::printing::printing;
 use crate::refusal::{refuse, say, say_memory};
 use crate::report::stop_line;
 use crate::run::{RunEnd, run_on};
 use kern_image::build;
 use kern_image::serving::serving;
+use psx_asm::Object;
 use psx_base::{Host, Out, Stop};
 use psx_board::Board;
 use psx_exe::Exe;
@@ -168,6 +173,30 @@ fn print_file<H: Host>(alloc: Global, host: &mut H, name: &str) -> u8
     }
 }
 
+// Sends the program of an object.
+fn send_assembling<H: Host>(alloc: Global, host: &mut H, object: &Object) -> u8
+    requires { AreInWindow (bytes_of_parts object.now.parts) }
+    ensures sends { MakesText (H.sent host.old) (H.sent host.new) (H.send_faults host.old) (H.send_faults host.new) Out.Ram (assembling (placed_by object.now)) result }
+    ensures front { TextInPart (H.sent host.old) (H.sent host.new) Out.Ram (assembling (placed_by object.now)) }
+    ensures on { GoesOn H.holds H.load_faults H.send_faults host.old host.new }
+{
+    match assembling(alloc, object) {
+        Ok(file) => send_text(host, Out::Ram, &file),
+        Err(_) => say_memory(host),
+    }
+}
+
+// Assembles the text of a file.
+fn assemble_file<H: Host>(alloc: Global, host: &mut H, name: &str) -> u8
+    ensures ends { Ends (moment H.holds H.sent H.load_faults H.send_faults host.old) (moment H.holds H.sent H.load_faults H.send_faults host.new) (ToAssemble name.now) result }
+    ensures on { GoesOn H.holds H.load_faults H.send_faults host.old host.new }
+{
+    match load_text(alloc, host, name) {
+        Ok(object) => send_assembling(alloc, host, &object),
+        Err(refusal) => refuse(host, refusal),
+    }
+}
+
 // Does what the words ask for.
 fn run_command<H: Host>(alloc: Global, host: &mut H, request: Request) -> u8
     requires { HasBudget request }
@@ -178,13 +207,14 @@ fn run_command<H: Host>(alloc: Global, host: &mut H, request: Request) -> u8
         Request::Run(run) => run_files(alloc, host, run),
         Request::Image => send_image(alloc, host),
         Request::Print(name) => print_file(alloc, host, name),
+        Request::Assemble(name) => assemble_file(alloc, host, name),
     }
 }
 
 /// All that the program does: from the words behind its name to the status that it ends with.
 ///
 /// Statuses: 0 the command was done, a run with Exit or Budget, 1 the run with another stop; 2 the words are in no command's form; 3 the program has a fault, 4 the schedule,
-/// 9 the configuration; 5 a file wasn't read; 6 a sending failed; 7 want of memory. A report is one line.
+/// 8 the assembly text, 9 the configuration; 5 a file wasn't read; 6 a sending failed; 7 want of memory. A report is one line.
 pub fn psxk<H: Host>(alloc: Global, words: &[&str], host: &mut H) -> u8
     ensures listed { IsStatus result }
 

@@ -12,3 +12,6 @@ returns-in-Config-clause-says g c = rw c.in-Config.is (rw (← (c.as_slice-in-Co
 
 pub returns-in-Unread-clause-says : goal.returns-in-Unread-clause-says
 returns-in-Unread-clause-says g c = rw c.in-Unread.is c.say_read.ensures.says
+
+pub returns-in-Text-clause-says : goal.returns-in-Text-clause-says
+returns-in-Text-clause-says g c = rw c.in-Text.is c.say_text.ensures.says

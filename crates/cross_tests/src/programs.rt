@@ -1,0 +1,373 @@
+//! Written by examples/as_tests.sh from the files of examples/.
+use crate::shows;
+
+#[test]
+fn critical(rt: HostRuntime) {
+    shows(
+        &rt,
+        b"# A critical section: SYSCALL with r4 1 turns interrupts off and answers in r2 whether they were on, with r4 2 it turns them on.
+# With r4 0 it does nothing. All but the first keep r2. Prints the answers of turning them off twice, on, and off again.
+
+start:
+        li      r4, 1
+        syscall
+        addiu   r16, r2, '0'            # 1: they were on
+        syscall
+        addiu   r17, r2, '0'            # 0: they were off
+        li      r2, 7
+        li      r4, 2
+        syscall
+        addiu   r18, r2, '0'            # 7: r2 is kept
+        li      r4, 0
+        syscall
+        li      r4, 1
+        syscall
+        addiu   r19, r2, '0'            # 1: they were on again
+
+        li      r10, 0xA0
+        li      r9, 0x3C                # putchar
+        jalr    r31, r10
+        move    r4, r16                 # in the slot: the argument
+        jalr    r31, r10
+        move    r4, r17
+        jalr    r31, r10
+        move    r4, r18
+        jalr    r31, r10
+        move    r4, r19
+        li      r9, 0x06                # exit
+        jr      r10
+        li      r4, 0
+",
+        b"1071",
+        b" Exit 00000000
+",
+    );
+}
+
+#[test]
+fn hello(rt: HostRuntime) {
+    shows(
+        &rt,
+        b"# Hello: writes a line to the console, a byte at a time, and ends with exit(0).
+# A call of the kernel: its number in r9, its argument in r4, and a jump to the gate of its table with the return address in r31.
+
+.equ GATE_A   0xA0
+.equ EXIT     0x06
+.equ PUTCHAR  0x3C
+
+start:
+        la      r16, text
+        li      r17, GATE_A
+next:
+        lbu     r4, 0(r16)
+        addiu   r16, r16, 1             # r4 holds the byte only behind this instruction
+        beq     r4, r0, done
+        li      r9, PUTCHAR             # in the slot of the branch: executed whether or not it is taken
+        jalr    r31, r17
+        nop
+        b       next
+        nop
+done:
+        li      r4, 0
+        li      r9, EXIT
+        jr      r17
+        nop
+
+text:   .asciiz \"Hello from the user side.\\n\"
+",
+        b"Hello from the user side.
+",
+        b" Exit 00000000
+",
+    );
+}
+
+#[test]
+fn load_delay(rt: HostRuntime) {
+    shows(
+        &rt,
+        b"# The load delay: the instruction behind a load still sees the register's old value, the one after it the new one.
+# Of two loads of one register in a row the first is dropped.
+# Prints what was seen behind one load, after that, and behind two loads, and ends with the three digits as its code.
+
+start:
+        la      r16, numbers
+        li      r2, 1
+        lw      r2, 0(r16)              # 7 is under way
+        addu    r20, r2, r0             # sees the old value, 1
+        addu    r21, r2, r0             # sees the new value, 7
+
+        li      r3, 5
+        lw      r3, 0(r16)              # 7 is under way, and never comes
+        lw      r3, 4(r16)
+        addu    r22, r3, r0             # sees the old value still, 5
+
+        jal     print
+        move    r4, r20                 # in the slot: the argument
+        jal     print
+        move    r4, r21
+        jal     print
+        move    r4, r22
+
+        sll     r4, r20, 8
+        sll     r8, r21, 4
+        or      r4, r4, r8
+        or      r4, r4, r22
+        li      r9, 0x06                # exit
+        li      r10, 0xA0
+        jr      r10
+        nop
+
+# Prints the digit r4. The kernel returns to our own caller, since r31 is still its address.
+print:
+        addiu   r4, r4, '0'
+        li      r9, 0x3C                # putchar
+        li      r10, 0xA0
+        jr      r10
+        nop
+
+        .align  2
+numbers: .word  7 9
+",
+        b"175",
+        b" Exit 00000175
+",
+    );
+}
+
+#[test]
+fn registers(rt: HostRuntime) {
+    shows(
+        &rt,
+        b"# Registers over a call: each register has a value of its own, putchar is called, and each is compared with its value.
+# A call changes r2, which is the answer, k0 (r26), the address returned to, and k1 (r27), which is 0. All others are kept, HI and LO too.
+# Prints `k` by the call that is looked at, then `ept` where all were kept and a `!` where one wasn't. The code has the bits that differ.
+
+start:
+        li      r1, 7777
+        mthi    r1
+        li      r1, 6666
+        mtlo    r1
+        li      r1, 1001
+        li      r3, 1003
+        li      r4, 'k'                 # the argument
+        li      r5, 1005
+        li      r6, 1006
+        li      r7, 1007
+        li      r8, 1008
+        li      r9, 0x3C                # putchar
+        li      r10, 0xA0
+        li      r11, 1011
+        li      r12, 1012
+        li      r13, 1013
+        li      r14, 1014
+        li      r15, 1015
+        li      r16, 1016
+        li      r17, 1017
+        li      r18, 1018
+        li      r19, 1019
+        li      r20, 1020
+        li      r21, 1021
+        li      r22, 1022
+        li      r23, 1023
+        li      r24, 1024
+        li      r25, 1025
+        li      r28, 1028
+        li      r29, 1029               # sp: the kernel uses no stack of the program's
+        li      r30, 1030
+        jalr    r31, r10
+        nop
+back:
+# r1 gets each register's difference from its value, one after the other.
+        xori    r1, r1, 1001
+        xori    r2, r2, 'k'
+        or      r1, r1, r2
+        xori    r3, r3, 1003
+        or      r1, r1, r3
+        xori    r4, r4, 'k'
+        or      r1, r1, r4
+        xori    r5, r5, 1005
+        or      r1, r1, r5
+        xori    r6, r6, 1006
+        or      r1, r1, r6
+        xori    r7, r7, 1007
+        or      r1, r1, r7
+        xori    r8, r8, 1008
+        or      r1, r1, r8
+        xori    r9, r9, 0x3C
+        or      r1, r1, r9
+        xori    r10, r10, 0xA0
+        or      r1, r1, r10
+        xori    r11, r11, 1011
+        or      r1, r1, r11
+        xori    r12, r12, 1012
+        or      r1, r1, r12
+        xori    r13, r13, 1013
+        or      r1, r1, r13
+        xori    r14, r14, 1014
+        or      r1, r1, r14
+        xori    r15, r15, 1015
+        or      r1, r1, r15
+        xori    r16, r16, 1016
+        or      r1, r1, r16
+        xori    r17, r17, 1017
+        or      r1, r1, r17
+        xori    r18, r18, 1018
+        or      r1, r1, r18
+        xori    r19, r19, 1019
+        or      r1, r1, r19
+        xori    r20, r20, 1020
+        or      r1, r1, r20
+        xori    r21, r21, 1021
+        or      r1, r1, r21
+        xori    r22, r22, 1022
+        or      r1, r1, r22
+        xori    r23, r23, 1023
+        or      r1, r1, r23
+        xori    r24, r24, 1024
+        or      r1, r1, r24
+        xori    r25, r25, 1025
+        or      r1, r1, r25
+        xori    r28, r28, 1028
+        or      r1, r1, r28
+        xori    r29, r29, 1029
+        or      r1, r1, r29
+        xori    r30, r30, 1030
+        or      r1, r1, r30
+        mfhi    r3
+        xori    r3, r3, 7777
+        or      r1, r1, r3
+        mflo    r3
+        xori    r3, r3, 6666
+        or      r1, r1, r3
+        la      r3, back
+        xor     r2, r26, r3             # k0
+        or      r1, r1, r2
+        xor     r2, r31, r3
+        or      r1, r1, r2
+        or      r1, r1, r27             # k1
+
+        la      r16, kept
+        beq     r1, r0, print
+        nop
+        la      r16, lost
+print:
+        lbu     r4, 0(r16)
+        addiu   r16, r16, 1
+        beq     r4, r0, done
+        li      r9, 0x3C                # putchar
+        li      r10, 0xA0
+        jalr    r31, r10
+        nop
+        b       print
+        nop
+done:
+        move    r4, r1
+        li      r9, 0x06                # exit
+        li      r10, 0xA0
+        jr      r10
+        nop
+
+kept:   .asciiz \"ept\\n\"
+lost:   .asciiz \"!\\n\"
+",
+        b"kept
+",
+        b" Exit 00000000
+",
+    );
+}
+
+#[test]
+fn table(rt: HostRuntime) {
+    shows(
+        &rt,
+        b"# A loop over a table of bytes: prints each as a digit by table B's putchar, and ends by _exit with their sum.
+# 3 + 1 + 4 + 1 + 5 + 9 + 2 + 6 = 31, which is 1Fh.
+
+.equ GATE_A   0xA0
+.equ GATE_B   0xB0
+.equ _EXIT    0x3A                      # in table A
+.equ PUTCHAR  0x3D                      # in table B
+
+start:
+        la      r16, table
+        la      r17, table_end
+        li      r18, 0                  # the sum so far
+next:
+        lbu     r8, 0(r16)
+        addiu   r16, r16, 1
+        addu    r18, r18, r8
+        addiu   r4, r8, '0'
+        li      r9, PUTCHAR
+        li      r10, GATE_B
+        jalr    r31, r10
+        nop
+        bne     r16, r17, next
+        nop
+
+        li      r4, 0x0A                # a line feed
+        li      r9, PUTCHAR
+        jalr    r31, r10                # the call kept r10
+        nop
+        move    r4, r18
+        li      r9, _EXIT
+        li      r10, GATE_A
+        jr      r10
+        nop
+
+table:  .byte   3 1 4 1 5 9 2 6
+table_end:
+",
+        b"31415926
+",
+        b" Exit 0000001F
+",
+    );
+}
+
+#[test]
+fn unaligned(rt: HostRuntime) {
+    shows(
+        &rt,
+        b"# Words at any address: LWR and LWL together read the four bytes from an address on, SWR and SWL write them.
+# Between the two no instruction is needed: LWL sees what LWR has under way.
+# The word at bytes + 1 is 55443322h; written to room + 2 and read back by bytes it gives the digits that are printed.
+
+start:
+        la      r16, bytes
+        la      r17, room
+        lwr     r4, 1(r16)
+        lwl     r4, 4(r16)
+        nop
+        move    r20, r4                 # 55443322h
+        swr     r20, 2(r17)
+        swl     r20, 5(r17)
+
+        addiu   r18, r17, 8
+next:
+        lbu     r4, 0(r17)              # 0 0 2 3 4 5 0 0 in the low four bits
+        addiu   r17, r17, 1
+        andi    r4, r4, 15
+        addiu   r4, r4, '0'
+        li      r9, 0x3C                # putchar
+        li      r10, 0xA0
+        jalr    r31, r10
+        nop
+        bne     r17, r18, next
+        nop
+
+        move    r4, r20
+        li      r9, 0x06                # exit
+        jr      r10
+        nop
+
+        .align  2
+bytes:  .byte   0x11 0x22 0x33 0x44 0x55 0x66 0x77 0x88
+room:   .space  8
+",
+        b"00234500",
+        b" Exit 55443322
+",
+    );
+}

@@ -1,0 +1,12 @@
+pub mod ValueLists
+pub mod Readings
+pub mod Known
+pub mod Returned
+pub mod Front
+pub mod Aligned
+pub mod Addresses
+pub mod Window
+pub mod Rounds
+pub mod Lines
+pub mod Behind
+pub mod Whole

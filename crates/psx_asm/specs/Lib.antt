@@ -1,0 +1,17 @@
+pub mod Piece
+pub mod Numbers
+pub mod Operands
+pub mod Instructions
+pub mod Shapes
+pub mod Statement
+pub mod Directives
+pub mod Line
+pub mod Encoding
+pub mod Placing
+pub mod Assembly
+pub mod Shown
+pub mod Names
+pub mod Failing
+pub mod Walking
+pub mod Output
+pub mod Rounds

@@ -1,0 +1,28 @@
+//! The assembler: a text of assembly language gives bytes at addresses, or its first fault.
+//! It meets the definition of assembly, by lines and sizes (`specs/Assembly.antt`: `IsAssemblyOf`).
+//! The top call's command `asm` is to make a program of its objects, and the printer's law to speak of its definition.
+#![tactic(auto)]
+
+mod assembly;
+mod directive;
+mod encode;
+mod fault;
+mod instruction;
+mod line;
+mod number;
+mod object;
+mod operand;
+mod piece;
+mod place;
+mod shape;
+mod shapes;
+mod statement;
+mod symbol;
+mod symbols;
+mod table;
+#[cfg(test)]
+mod tests;
+
+pub use assembly::{assemble, object_or_fault};
+pub use fault::{AsmError, AsmFault};
+pub use object::{Bytes, Name, Object, Part, Parts};
