@@ -5,18 +5,18 @@ use Rattle.psx_base.specs.Memory.{Memory}
 use Rattle.psx_base.specs.KernelState.{ThreadContext, KernelState}
 use Rattle.kern_layout.specs.Valid.{RunningFits, NextFits, Valid}
 
-next_fits : (s : KernelState) (m : Memory) (t : ThreadContext) (o : Option ℕ) → NextFits s o → NextFits (record s { memory = m; running = t }) o
-next_fits s m t None h = tt
-next_fits s m t (Some n) h = h
+next_fits : (s : KernelState) (m : Memory) (x : ℕ) (t : ThreadContext) (o : Option ℕ) → NextFits s o → NextFits (record s { memory = m; random = x; running = t }) o
+next_fits s m x t None h = tt
+next_fits s m x t (Some n) h = h
 
-pub valid_moved : (s : KernelState) (m : Memory) (t : ThreadContext) → Valid s → RunningFits t.context → Valid (record s { memory = m; running = t })
-valid_moved s m t v r = record {
+pub valid_moved : (s : KernelState) (m : Memory) (x : ℕ) (t : ThreadContext) → Valid s → RunningFits t.context → Valid (record s { memory = m; random = x; running = t })
+valid_moved s m x t v r = record {
   threads_least = v.threads_least;
   threads_most = v.threads_most;
   threads = v.threads;
   current = v.current;
   running = r;
-  next = next_fits s m t s.next v.next;
+  next = next_fits s m x t s.next v.next;
   events_least = v.events_least;
   events_most = v.events_most;
   statuses = v.statuses;

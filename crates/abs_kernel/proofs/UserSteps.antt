@@ -130,4 +130,4 @@ module _ (c : Context) (m : Memory) (r : RunningFits c) where
       (λ _. tt)
 
 pub user_step_keeps_valid : UserStepKeepsValid
-user_step_keeps_valid s c m v e = valid_moved s m (record s.running { context = c }) v (subst MoveFits e (step_fits s.running.context s.memory v.running))
+user_step_keeps_valid s c m v e = valid_moved s m s.random (record s.running { context = c }) v (subst MoveFits e (step_fits s.running.context s.memory v.running))

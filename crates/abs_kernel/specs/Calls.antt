@@ -4,20 +4,28 @@ use Rattle.psx_base.specs.declared.stop.Table.{Table}
 use Rattle.psx_base.specs.declared.stop.Stop.TheVariants.{Unserved}
 use Rattle.psx_base.specs.KernelState.{KernelState}
 use Rattle.abs_kernel.specs.declared.calls.CallId.{CallId}
-use Rattle.abs_kernel.specs.declared.calls.CallId.TheVariants.{A06, A3A, A3C, B38, B3D}
+use Rattle.abs_kernel.specs.declared.calls.CallId.TheVariants.{A06, A2B, A2E, A2F, A30, A3A, A3C, A3E, B38, B3D, B3F}
 use Rattle.abs_kernel.specs.CallTable.{served_call}
 use Rattle.abs_kernel.specs.Stay.{Stay, Halt}
 use Rattle.abs_kernel.specs.Answered.{registers_of}
 use Rattle.abs_kernel.specs.Exits.{exits}
-use Rattle.abs_kernel.specs.Console.{put_character}
+use Rattle.abs_kernel.specs.Console.{put_character, put_text}
+use Rattle.abs_kernel.specs.Random.{rand, seed}
+use Rattle.abs_kernel.specs.MemoryCalls.{memset, memchr}
 
 -- each call's stay
 abbrev pub call : CallId → KernelState → Stay
 call A06 s = exits s
+call A2B s = memset s
+call A2E s = memchr s
+call A2F s = rand s
+call A30 s = seed s
 call A3A s = exits s
 call A3C s = put_character s
+call A3E s = put_text s
 call B38 s = exits s
 call B3D s = put_character s
+call B3F s = put_text s
 
 -- a number without a row stops with its table, itself and r31
 abbrev pub by_row : Table → Option CallId → KernelState → Stay

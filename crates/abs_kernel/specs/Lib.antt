@@ -3,7 +3,11 @@ pub mod Cause
 pub mod Stay
 pub mod Answered
 pub mod Exits
+pub mod Switching
 pub mod Console
+pub mod UserBytes
+pub mod Random
+pub mod MemoryCalls
 pub mod Calls
 pub mod Sys
 pub mod KernelStep

@@ -59,13 +59,9 @@ UnservedStops = (s : KernelState) (code : ℕ) (table : Table) → entrance_of s
 
 -- ---- what a stay changes
 
--- it changes the user's memory nowhere
-abbrev pub MemoryKept : Type 0
-MemoryKept = (s : KernelState) (code : ℕ) → EachEnd (λ t. t.memory ≡ s.memory) (λ stop memory. memory ≡ s.memory) (stay_of s code)
-
--- it changes the running context alone
+-- it changes the running context, the user's memory and the state of random numbers alone
 abbrev pub RestKept : Type 0
-RestKept = (s : KernelState) (code : ℕ) → EachReturn (λ t. t ≡ record s { running = t.running }) (stay_of s code)
+RestKept = (s : KernelState) (code : ℕ) → EachReturn (λ t. t ≡ record s { running = t.running; memory = t.memory; random = t.random }) (stay_of s code)
 
 -- it returns to the program at rest: k0 is the address and k1 is 0
 abbrev pub ReturnsAtRest : Type 0

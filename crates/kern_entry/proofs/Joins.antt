@@ -8,13 +8,20 @@ use Rattle.psx_cpu.specs.Processor.{Cop0}
 use Rattle.psx_flow.specs.Run.{Run}
 use Rattle.psx_flow.specs.Kernel.{kernel_words}
 use Rattle.psx_flow.specs.Reaches.{Keeps}
-use Rattle.abs_kernel.specs.Stay.{Return}
-use Rattle.abs_kernel.specs.Answered.{with_answer}
-use Rattle.kern_entry.specs.EntryLaws.{HoldsContext, LeaveReturns, WorkReturns}
+use Rattle.psx_base.specs.declared.stop.Stop.TheVariants.{Exit, BadPointer}
+use Rattle.abs_kernel.specs.Stay.{Stay, Return, Halt}
+use Rattle.abs_kernel.specs.Exits.{exits}
+use Rattle.abs_kernel.specs.Console.{put_character}
+use Rattle.kern_stay.specs.Doors.{called_with}
+use Rattle.kern_entry.specs.declared.places.TheConstants.{EXIT, PUTCHAR}
+use Rattle.kern_entry.specs.Within.{Aim}
+use Rattle.kern_entry.specs.Made.{Made}
+use Rattle.abs_kernel.specs.Answered.{with_running, with_answer}
+use Rattle.kern_entry.specs.EntryLaws.{KeepsRest, HoldsContext, LeaveReturns, WaitReturns, WorkReturns, BadPointerStops, OwnCalls}
 use Rattle.kern_entry.proofs.WorkArea.{Holds}
 use Rattle.kern_entry.proofs.Placed.{all_placed}
 use Rattle.kern_entry.proofs.Returning.{back_to}
-use Rattle.kern_entry.proofs.Stages.{leave_shown, work_shown}
+use Rattle.kern_entry.proofs.Stages.{leave_shown, work_shown, resume_shown, bad_pointer_shown, exit_shown, putchar_shown}
 
 -- a context with nothing pending, taken up at an address
 taken_back : (x : Context) (at : ℕ) → x.pending ≡ None → taken x at ≡ back_to x.regs at
@@ -33,7 +40,7 @@ keeps regs z m off = record { bytes = λ x e. refl; masked = off }
 pub leave_returns : LeaveReturns
 leave_returns regs z m t s off h is =
     let x : Context = t.context in
-    leave_shown m (all_placed m h.words) (Return s) x.regs x.pc t.interrupts [] (begun regs z m) (keeps regs z m off) (holds regs z m t h) (record {
+    leave_shown m (all_placed m h.words) (Return s) (Made m (Return s)) (λ k q y. y) x.regs x.pc t.interrupts [] (begun regs z m) (keeps regs z m off) (holds regs z m t h) (record {
       state = s;
       follows = tt;
       is = refl;
@@ -44,10 +51,61 @@ leave_returns regs z m t s off h is =
 pub work_returns : WorkReturns
 work_returns regs z m t s off h is =
     let x : Context = t.context in
-    work_shown m (all_placed m h.words) (Return s) x.regs x.pc t.interrupts [] (begun regs z m) (keeps regs z m off) (holds regs z m t h) (record {
+    work_shown m (all_placed m h.words) (Return s) (Made m (Return s)) (λ k q y. y) x.regs x.pc t.interrupts [] (begun regs z m) (keeps regs z m off) (holds regs z m t h) (record {
       state = s;
       follows = tt;
       is = refl;
       context = ap (λ y. y.context) is ∙ taken_back x x.pc h.settled;
       interrupts = ap (λ y. y.interrupts) is;
     }) 282 (omega arith)
+
+pub wait_returns : WaitReturns
+wait_returns regs z m t s off h is =
+    let x : Context = t.context in
+    let h0 = holds regs z m t h in
+    resume_shown m (all_placed m h.words) (Return s) (Made m (Return s)) (λ k q y. y) x.regs x.pc t.interrupts [] (begun regs z m) (keeps regs z m off) (record { area = h0.area; spared = h0.spared; ports = h0.ports; within = omega arith }) (record {
+      state = s;
+      follows = tt;
+      is = refl;
+      context = ap (λ y. y.context) is ∙ taken_back x x.pc h.settled;
+      interrupts = ap (λ y. y.interrupts) is;
+    }) 282 (omega arith)
+
+pub bad_pointer_stops : BadPointerStops
+bad_pointer_stops regs z m u t off h =
+    let x : Context = t.context in
+    let stay : Stay = Halt (BadPointer regs.r8 x.regs.r31) u in
+    bad_pointer_shown m (all_placed m h.words) stay (Made m stay) (λ k q y. y) x.regs x.pc t.interrupts [] regs.r8 (begun regs z m) (keeps regs z m off) (holds regs z m t h) refl
+    (record { stop = BadPointer regs.r8 x.regs.r31; memory = u; follows = ((tt, refl), refl); is = refl; stops = λ a b c. refl }) 282 (omega arith)
+
+-- exit and putchar
+abbrev starts : Registers → Cop0 → Memory → Run
+starts regs z m = record { regs = regs; cop0 = z; bytes = m; seen = []; passed = 0 }
+
+starts_hold : (regs : Registers) (z : Cop0) (m : Memory) (t : ThreadContext) (most : ℕ) → HoldsContext m t → Holds t.context.regs t.context.pc t.interrupts m [] most (starts regs z m)
+starts_hold regs z m t most h = record { area = h.area; spared = λ a o. refl; ports = refl; within = omega arith }
+
+pub exit_called : OwnCalls EXIT exits
+exit_called s regs z m off h =
+    let x : Context = s.running.context in
+    let stay : Stay = exits s in
+    let Z : Aim = λ k q. KeepsRest s stay × Made m stay k q in
+    let d : Registers = called_with x.regs regs in
+    exit_shown m (all_placed m h.words) stay Z (λ k q y. (refl, y)) x.regs x.pc s.running.interrupts [] x.regs.r4 (starts d z m) (record { bytes = λ a e. refl; masked = off }) (starts_hold d z m s.running 130 h) refl
+    (record { stop = Exit x.regs.r4; memory = s.memory; follows = (tt, refl); is = refl; stops = λ a b c. refl }) 802 (omega arith)
+
+pub putchar_called : OwnCalls PUTCHAR put_character
+putchar_called s regs z m off h =
+    let x : Context = s.running.context in
+    let stay : Stay = put_character s in
+    let Z : Aim = λ k q. KeepsRest s stay × Made m stay k q in
+    let d : Registers = called_with x.regs regs in
+    let byte : ℕ = x.regs.r4 % 2 ^ 8 in
+    putchar_shown m (all_placed m h.words) stay Z (λ k q y. (refl, y)) x.regs x.pc s.running.interrupts [] (starts d z m) (record { bytes = λ a e. refl; masked = off }) (starts_hold d z m s.running 100 h) refl
+    (record {
+      state = with_running s (with_answer (taken x x.regs.r31) byte);
+      follows = (tt, (refl, refl));
+      is = refl;
+      context = ap (λ y. with_answer y byte) (taken_back x x.regs.r31 h.settled);
+      interrupts = refl;
+    }) 802 (omega arith)

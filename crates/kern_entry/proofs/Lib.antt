@@ -1,5 +1,3 @@
-pub mod Over
-pub mod Trees
 pub mod WalkLow
 pub mod WalkSteps
 pub mod Walk
@@ -9,10 +7,8 @@ pub mod Choosing
 pub mod Lookup
 pub mod Routines
 pub mod Leaving
-pub mod Pieces
 pub mod Placed
 pub mod Returning
-pub mod Telling
 pub mod Stages
 pub mod Whole
 pub mod Joins

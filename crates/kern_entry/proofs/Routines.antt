@@ -8,13 +8,13 @@ use Rattle.psx_flow.specs.Told.{ports}
 use Rattle.psx_flow.proofs.Log.{KernelWord}
 use Rattle.kern_layout.specs.Fields.{Block}
 use Rattle.kern_layout.specs.Contexts.{saved, saved_sr_of}
-use Rattle.kern_entry.specs.declared.places.TheConstants.{UNSERVED, EXCEPTION, EXIT, DONE, BACK, PUTCHAR, SYSCALLS, LEAVE, BEHIND}
+use Rattle.kern_entry.specs.declared.places.TheConstants.{UNSERVED, EXCEPTION, EXIT, DONE, BACK, PUTCHAR, SYSCALLS, LEAVE, BEHIND, BAD_POINTER}
 use Rattle.kern_entry.specs.declared.calls.TheConstants.{EXIT_NODES, PUTCHAR_NODES}
-use Rattle.kern_entry.specs.declared.stops.TheConstants.{UNSERVED_NODES, EXCEPTION_NODES, DONE_NODES, BACK_NODES}
+use Rattle.kern_entry.specs.declared.stops.TheConstants.{UNSERVED_NODES, EXCEPTION_NODES, DONE_NODES, BACK_NODES, BAD_POINTER_NODES}
 use Rattle.kern_entry.specs.declared.sys.TheConstants.{SYSCALLS_NODES}
 use Rattle.kern_entry.specs.EntryWords.{tree}
 use Rattle.kern_entry.specs.Made.{Spared}
-use Rattle.kern_entry.proofs.WorkArea.{held, Holds, Entered, holds_on, applied_spared, spared_then, area_put, area_sr}
+use Rattle.kern_entry.proofs.WorkArea.{held, Holds, Entered, holds_on, applied_spared, spared_then, area_put, area_sr, area_r31}
 use Rattle.kern_entry.proofs.Choosing.{code_is}
 
 -- the last access writes a code to the halt port, behind these to ports
@@ -76,15 +76,25 @@ module _ (c : Registers) (z : Cop0) (on : Bool) (m : Memory) (p : List Access) (
       start (calls kernel_words []) (fair kernel_words []) (tree EXCEPTION_NODES) EXCEPTION (λ e. Stops 2 (PortWrite HALT_B z.epc ∷ PortWrite HALT_A code ∷ p) m more e) (λ _ _. ⊥) s
       (λ line. record { rest = _; seen = refl; told = (λ i. PortWrite HALT_B ((h.cop0 i).epc) ∷ PortWrite HALT_A (coded line i) ∷ h.holds.ports i); spared = h.holds.spared; within = omega arith })
 
-  pub putchar_meets : Meets kernel_words (calls kernel_words []) (tree PUTCHAR_NODES) PUTCHAR (λ _. ⊥) (λ to e. Answers (c.r4 % 2 ^ 8) c z.epc on m (PortWrite CONSOLE_DATA c.r4 ∷ p) more to e) s
-  putchar_meets =
-      let within = h.holds.within in
-      start (calls kernel_words []) (fair kernel_words []) (tree PUTCHAR_NODES) PUTCHAR (λ _. ⊥) (λ to e. Answers (c.r4 % 2 ^ 8) c z.epc on m (PortWrite CONSOLE_DATA c.r4 ∷ p) more to e) s
+-- from a context in the work area
+module _ (c : Registers) (pc : ℕ) (on : Bool) (m : Memory) (p : List Access) (most more : ℕ) (s : Run) (h : Holds c pc on m p most s) (few : most + 30 ≤ more) where
+  pub putchar_meets : s.regs.r4 ≡ c.r4 → Meets kernel_words (calls kernel_words []) (tree PUTCHAR_NODES) PUTCHAR (λ _. ⊥) (λ to e. Answers (c.r4 % 2 ^ 8) c pc on m (PortWrite CONSOLE_DATA c.r4 ∷ p) more to e) s
+  putchar_meets r4 =
+      let within = h.within in
+      start (calls kernel_words []) (fair kernel_words []) (tree PUTCHAR_NODES) PUTCHAR (λ _. ⊥) (λ to e. Answers (c.r4 % 2 ^ 8) c pc on m (PortWrite CONSOLE_DATA c.r4 ∷ p) more to e) s
       (record {
         to_is = refl;
-        holds = record { area = h.holds.area; spared = h.holds.spared; ports = (λ i. PortWrite CONSOLE_DATA (h.r4 i) ∷ h.holds.ports i); within = omega arith };
-        answer = low_byte s.regs.r4 ∙ ap (λ x. x % 2 ^ 8) h.r4;
+        holds = record { area = h.area; spared = h.spared; ports = (λ i. PortWrite CONSOLE_DATA (r4 i) ∷ h.ports i); within = omega arith };
+        answer = low_byte s.regs.r4 ∙ ap (λ x. x % 2 ^ 8) r4;
       })
+
+  -- an address that isn't user memory
+  pub bad_pointer_meets : (v : ℕ) → s.regs.r8 ≡ v → Meets kernel_words (calls kernel_words []) (tree BAD_POINTER_NODES) BAD_POINTER (λ e. Stops 4 (PortWrite HALT_B c.r31 ∷ PortWrite HALT_A v ∷ p) m more e) (λ _ _. ⊥) s
+  bad_pointer_meets v r8 =
+      let within = h.within in
+      let r31 = area_r31 s.bytes c pc on h.area in
+      start (calls kernel_words []) (fair kernel_words []) (tree BAD_POINTER_NODES) BAD_POINTER (λ e. Stops 4 (PortWrite HALT_B c.r31 ∷ PortWrite HALT_A v ∷ p) m more e) (λ _ _. ⊥) s
+      (record { rest = _; seen = refl; told = (λ i. PortWrite HALT_B (r31 i) ∷ PortWrite HALT_A (r8 i) ∷ h.ports i); spared = h.spared; within = omega arith })
 
 -- ---- the SYSCALLs, by r4
 

@@ -44,6 +44,7 @@ save_meets s on most sr seen few =
         r4 = refl;
         r9 = refl;
         r31 = refl;
+        args = (refl, refl, refl, refl);
         cop0 = refl;
       },
     )

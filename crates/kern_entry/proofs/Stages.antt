@@ -17,25 +17,25 @@ use Rattle.psx_flow.specs.Meets.{Goal, Meets, calls}
 use Rattle.psx_flow.specs.Reaches.{IsPlaced, Keeps}
 use Rattle.kern_layout.specs.Stands.{user_sr}
 use Rattle.abs_kernel.specs.Stay.{Stay, Return, Halt}
-use Rattle.kern_entry.specs.declared.places.TheConstants.{LEAVE, BEHIND, RESUME, WORK, EXIT, DONE, BACK, UNSERVED, EXCEPTION, PUTCHAR}
+use Rattle.kern_entry.specs.declared.places.TheConstants.{LEAVE, BEHIND, RESUME, WORK, EXIT, DONE, BACK, UNSERVED, EXCEPTION, PUTCHAR, BAD_POINTER}
 use Rattle.kern_entry.specs.declared.calls.TheConstants.{EXIT_NODES, PUTCHAR_NODES}
-use Rattle.kern_entry.specs.declared.stops.TheConstants.{UNSERVED_NODES, EXCEPTION_NODES, DONE_NODES, BACK_NODES}
+use Rattle.kern_entry.specs.declared.stops.TheConstants.{UNSERVED_NODES, EXCEPTION_NODES, DONE_NODES, BACK_NODES, BAD_POINTER_NODES}
 use Rattle.kern_entry.specs.declared.leave.TheConstants.{LEAVE_NODES, BEHIND_NODES, RESUME_NODES, WORK_NODES, RETURN}
 use Rattle.kern_entry.specs.EntryWords.{tree}
-use Rattle.kern_entry.specs.Within.{Within}
+use Rattle.kern_entry.specs.Within.{Aim, Within}
 use Rattle.kern_entry.specs.Made.{after, Follows, given, IsBack, Leaving, Returned, Halted, Spared, Made}
 use Rattle.kern_entry.proofs.Walk.{walk_placed, within_backs, within_here}
 use Rattle.kern_entry.proofs.WorkArea.{Holds, Entered}
-use Rattle.kern_entry.proofs.Routines.{Stops, Answers, Exits, exit_meets, done_meets, back_meets, unserved_meets, exception_meets, putchar_meets}
+use Rattle.kern_entry.proofs.Routines.{Stops, Answers, Exits, exit_meets, done_meets, back_meets, unserved_meets, exception_meets, putchar_meets, bad_pointer_meets}
 use Rattle.kern_entry.proofs.Leaving.{Resumed, leave_meets, behind_meets, work_meets, resume_meets}
 use Rattle.kern_entry.proofs.Returning.{back_to, Back, return_from}
-use Rattle.kern_entry.proofs.Telling.{after_ports, follows_ports, given_ports}
+use Rattle.kern_stay.proofs.Telling.{after_ports, follows_ports, given_ports}
 use Rattle.kern_entry.proofs.Placed.{AllPlaced}
 
-module _ (m : Memory) (all : AllPlaced m) (stay : Stay) where
-  -- the stay is made from a state at an address, in the steps that are left
+module _ (m : Memory) (Z : Aim) where
+  -- an aim is met from a state at an address, in the steps that are left
   abbrev pub Shown : Run → ℕ → Type 0
-  Shown s at = (n : ℕ) → 802 ≤ n + 4 * s.passed → Within (Made m stay) n (kernel_core (state_at s at)) s.seen
+  Shown s at = (n : ℕ) → 802 ≤ n + 4 * s.passed → Within Z n (kernel_core (state_at s at)) s.seen
 
   abbrev pub Keeping : Run → Type 0
   Keeping s = Keeps kernel_words m s
@@ -43,10 +43,9 @@ module _ (m : Memory) (all : AllPlaced m) (stay : Stay) where
   pub walks : (T : Tree) (at : ℕ) (K : Goal) (G : ℕ → Goal) (s : Run) → IsPlaced kernel_words m at T → Keeping s → ((e : Run) → K e → e.passed ≤ 200) → ((a : ℕ) (e : Run) → G a e → e.passed ≤ 200)
       → ((e : Run) → Keeping e → K e → Shown e (at + 4 * size T)) → ((a : ℕ) (e : Run) → Keeping e → G a e → Shown e a) → Meets kernel_words (calls kernel_words []) T at K G s → Shown s at
   walks T at K G s p ks low high here jump h =
-      walk_placed kernel_words m (Within (Made m stay)) (within_backs (Made m stay)) 200 [] tt T at K G 802 s (omega arith) p ks (record { low = low; low_jump = high; here = here; jump = jump }) h
+      walk_placed kernel_words m (Within Z) (within_backs Z) 200 [] tt T at K G 802 s (omega arith) p ks (record { low = low; low_jump = high; here = here; jump = jump }) h
 
-  -- ---- the ends of a stay
-
+module _ (stay : Stay) where
   -- behind these accesses to ports the stay returns with a context
   pub record Returns (c : Registers) (pc : ℕ) (on : Bool) (p : List Access) : Type 0 where
     pub state : KernelState
@@ -63,6 +62,16 @@ module _ (m : Memory) (all : AllPlaced m) (stay : Stay) where
     pub is : after stay p ≡ Halt stop memory
     pub stops : (a b c : ℕ) → halt_stop code (given HALT_A a p) (given HALT_B b p) (given HALT_C c p) ≡ Some stop
 
+-- where a stay that is made is aimed at
+module _ (m : Memory) (all : AllPlaced m) (stay : Stay) (Z : Aim) (aimed : (k : Core) (q : List Access) → Made m stay k q → Z k q) where
+  abbrev Show : Run → ℕ → Type 0
+  Show = Shown m Z
+
+  abbrev Keep : Run → Type 0
+  Keep s = Keeps kernel_words m s
+
+  -- ---- the ends of a stay
+
   is_at : (q p : List Access) (end : Stay) → ports q ≡ p → after stay p ≡ end → after stay q ≡ end
   is_at q p end e h = after_ports stay q ∙ (ap (after stay) e ∙ h)
 
@@ -73,13 +82,13 @@ module _ (m : Memory) (all : AllPlaced m) (stay : Stay) where
   given_at at before q p e = given_ports at before q ∙ ap (given at before) e
 
   -- the last load is no access to a port
-  made_back : (k : Core) (c : Registers) (pc : ℕ) (on : Bool) (p rest q : List Access) (last : ℕ) → q ≡ Load 4 0xEB88 last ∷ rest → ports rest ≡ p → Returns c pc on p → Leaving (Back c pc on m) k → Made m stay k q
+  made_back : (k : Core) (c : Registers) (pc : ℕ) (on : Bool) (p rest q : List Access) (last : ℕ) → q ≡ Load 4 0xEB88 last ∷ rest → ports rest ≡ p → Returns stay c pc on p → Leaving (Back c pc on m) k → Made m stay k q
   made_back k c pc on p rest q last e told r b =
       let back : Leaving (IsBack m r.state) k = (b.0, record { context = b.1.context ∙ sym r.context; sr = b.1.sr ∙ sym (ap user_sr r.interrupts); latch = b.1.latch; spared = b.1.spared }, b.2) in
       let P : Stay → Type 0 = λ y. Returned m y k in
       subst (λ x. Made m stay k x) (sym e) ((follows_at rest p told r.follows, tt), subst P (sym (is_at rest p (Return r.state) told r.is)) back)
 
-  made_halt : (k : Core) (e : Run) (code most : ℕ) (p : List Access) → k.bytes ≡ e.bytes → Stops code p m most e → HaltsBy code p → Made m stay k e.seen
+  made_halt : (k : Core) (e : Run) (code most : ℕ) (p : List Access) → k.bytes ≡ e.bytes → Stops code p m most e → HaltsBy stay code p → Made m stay k e.seen
   made_halt k e code most p same s h =
       let P : Stay → Type 0 = λ y. Halted m y code s.rest k in
       let told : (a b c : ℕ) → halt_stop code (given HALT_A a s.rest) (given HALT_B b s.rest) (given HALT_C c s.rest) ≡ Some h.stop = λ a b c.
@@ -87,10 +96,10 @@ module _ (m : Memory) (all : AllPlaced m) (stay : Stay) where
       subst (λ x. Made m stay k x) (sym s.seen) (follows_at s.rest p s.told h.follows, subst P (sym (is_at s.rest p (Halt h.stop h.memory) s.told h.is)) (told, subst (Spared m) (sym same) s.spared))
 
   -- a listing that stops
-  pub stops_here : (T : Tree) (at code : ℕ) (p : List Access) (s : Run) → IsPlaced kernel_words m at T → Keeping s → HaltsBy code p → Meets kernel_words (calls kernel_words []) T at (λ e. Stops code p m 200 e) (λ _ _. ⊥) s → Shown s at
+  pub stops_here : (T : Tree) (at code : ℕ) (p : List Access) (s : Run) → IsPlaced kernel_words m at T → Keep s → HaltsBy stay code p → Meets kernel_words (calls kernel_words []) T at (λ e. Stops code p m 200 e) (λ _ _. ⊥) s → Show s at
   stops_here T at code p s pl ks h me =
-      walks T at (λ e. Stops code p m 200 e) (λ _ _. ⊥) s pl ks (λ e k. k.within) (λ a e z. absurd z)
-      (λ e ke k n few. within_here (Made m stay) n _ _ (made_halt (kernel_core (state_at e (at + 4 * size T))) e code 200 p refl k h)) (λ a e ke z. absurd z) me
+      walks m Z T at (λ e. Stops code p m 200 e) (λ _ _. ⊥) s pl ks (λ e k. k.within) (λ a e z. absurd z)
+      (λ e ke k n few. within_here Z n _ _ (aimed (kernel_core (state_at e (at + 4 * size T))) e.seen (made_halt (kernel_core (state_at e (at + 4 * size T))) e code 200 p refl k h))) (λ a e ke z. absurd z) me
 
   -- ---- back to the program
 
@@ -98,66 +107,70 @@ module _ (m : Memory) (all : AllPlaced m) (stay : Stay) where
   left_one n passed h few = omega arith
 
   module _ (c : Registers) (pc : ℕ) (on : Bool) (p : List Access) where
-    resumed_shown : (e : Run) → Keeping e → Resumed c pc on m p 200 e → Returns c pc on p → Shown e RETURN
+    resumed_shown : (e : Run) → Keep e → Resumed c pc on m p 200 e → Returns stay c pc on p → Show e RETURN
     resumed_shown e ke k r n few =
-        subst (λ j. Within (Made m stay) j (kernel_core (state_at e RETURN)) e.seen) (left_one n e.passed k.within few)
-        (return_from (Made m stay) c pc on m p 200 (n - 1) m e all.return ke k (λ x b. made_back x c pc on p k.rest e.seen k.last k.seen k.ports r b))
+        subst (λ j. Within Z j (kernel_core (state_at e RETURN)) e.seen) (left_one n e.passed k.within few)
+        (return_from Z c pc on m p 200 (n - 1) m e all.return ke k (λ x b. aimed x e.seen (made_back x c pc on p k.rest e.seen k.last k.seen k.ports r b)))
 
-    pub resume_shown : (s : Run) → Keeping s → Holds c pc on m p 150 s → Returns c pc on p → Shown s RESUME
+    pub resume_shown : (s : Run) → Keep s → Holds c pc on m p 150 s → Returns stay c pc on p → Show s RESUME
     resume_shown s ks h r =
-        walks (tree RESUME_NODES) RESUME (λ e. Resumed c pc on m p 200 e) (λ _ _. ⊥) s all.resume ks (λ e k. k.within) (λ a e z. absurd z) (λ e ke k. resumed_shown e ke k r) (λ a e ke z. absurd z)
+        walks m Z (tree RESUME_NODES) RESUME (λ e. Resumed c pc on m p 200 e) (λ _ _. ⊥) s all.resume ks (λ e k. k.within) (λ a e z. absurd z) (λ e ke k. resumed_shown e ke k r) (λ a e ke z. absurd z)
         (resume_meets c pc on m p 150 200 s h (omega arith) (omega arith))
 
   -- from Holds at a listing that goes to RESUME
-  to_resume : (T : Tree) (at : ℕ) (c : Registers) (pc : ℕ) (on : Bool) (p : List Access) (s : Run) → IsPlaced kernel_words m at T → Keeping s → Returns c pc on p
-      → Meets kernel_words (calls kernel_words []) T at (λ _. ⊥) (λ to e. (to ≡ RESUME) × Holds c pc on m p 150 e) s → Shown s at
+  to_resume : (T : Tree) (at : ℕ) (c : Registers) (pc : ℕ) (on : Bool) (p : List Access) (s : Run) → IsPlaced kernel_words m at T → Keep s → Returns stay c pc on p
+      → Meets kernel_words (calls kernel_words []) T at (λ _. ⊥) (λ to e. (to ≡ RESUME) × Holds c pc on m p 150 e) s → Show s at
   to_resume T at c pc on p s pl ks r me =
-      walks T at (λ _. ⊥) (λ to e. (to ≡ RESUME) × Holds c pc on m p 150 e) s pl ks (λ e z. absurd z) (λ a e g. low e g.1) (λ e ke z. absurd z)
-      (λ a e ke g. subst (λ x. Shown e x) (sym g.0) (resume_shown c pc on p e ke g.1 r)) me
+      walks m Z T at (λ _. ⊥) (λ to e. (to ≡ RESUME) × Holds c pc on m p 150 e) s pl ks (λ e z. absurd z) (λ a e g. low e g.1) (λ e ke z. absurd z)
+      (λ a e ke g. subst (λ x. Show e x) (sym g.0) (resume_shown c pc on p e ke g.1 r)) me
     where
       low : (e : Run) → Holds c pc on m p 150 e → e.passed ≤ 200
       low e h = omega (arith, h.within)
 
-  pub leave_shown : (c : Registers) (pc : ℕ) (on : Bool) (p : List Access) (s : Run) → Keeping s → Holds c pc on m p 130 s → Returns (record c { r2 = s.regs.r2 }) c.r31 on p → Shown s LEAVE
+  pub leave_shown : (c : Registers) (pc : ℕ) (on : Bool) (p : List Access) (s : Run) → Keep s → Holds c pc on m p 130 s → Returns stay (record c { r2 = s.regs.r2 }) c.r31 on p → Show s LEAVE
   leave_shown c pc on p s ks h r = to_resume (tree LEAVE_NODES) LEAVE (record c { r2 = s.regs.r2 }) c.r31 on p s all.leave ks r (leave_meets c pc on m p 130 150 s h (omega arith))
 
-  pub behind_shown : (c : Registers) (pc : ℕ) (on : Bool) (p : List Access) (s : Run) → Keeping s → Holds c pc on m p 130 s → Returns c ((pc + 4) % 2 ^ 32) on p → Shown s BEHIND
+  pub behind_shown : (c : Registers) (pc : ℕ) (on : Bool) (p : List Access) (s : Run) → Keep s → Holds c pc on m p 130 s → Returns stay c ((pc + 4) % 2 ^ 32) on p → Show s BEHIND
   behind_shown c pc on p s ks h r = to_resume (tree BEHIND_NODES) BEHIND c ((pc + 4) % 2 ^ 32) on p s all.behind ks r (behind_meets c pc on m p 130 150 s h (omega arith))
 
-  pub work_shown : (c : Registers) (pc : ℕ) (on : Bool) (p : List Access) (s : Run) → Keeping s → Holds c pc on m p 130 s → Returns c pc on p → Shown s WORK
+  pub work_shown : (c : Registers) (pc : ℕ) (on : Bool) (p : List Access) (s : Run) → Keep s → Holds c pc on m p 130 s → Returns stay c pc on p → Show s WORK
   work_shown c pc on p s ks h r = to_resume (tree WORK_NODES) WORK c pc on p s all.work ks r (work_meets c pc on m p 130 150 s h (omega arith))
 
   -- ---- the routines
 
-  pub exit_shown : (c : Registers) (pc : ℕ) (on : Bool) (p : List Access) (v : ℕ) (s : Run) → Keeping s → Holds c pc on m p 130 s → s.regs.r4 ≡ v → HaltsBy 1 (PortWrite HALT_A v ∷ p) → Shown s EXIT
+  pub exit_shown : (c : Registers) (pc : ℕ) (on : Bool) (p : List Access) (v : ℕ) (s : Run) → Keep s → Holds c pc on m p 130 s → s.regs.r4 ≡ v → HaltsBy stay 1 (PortWrite HALT_A v ∷ p) → Show s EXIT
   exit_shown c pc on p v s ks h e stop = stops_here (tree EXIT_NODES) EXIT 1 (PortWrite HALT_A v ∷ p) s all.exit ks stop (exit_meets c pc on m p 130 200 v s h e (omega arith))
 
-  module _ (c : Registers) (z : Cop0) (on : Bool) (p : List Access) (s : Run) (ks : Keeping s) (h : Entered c z on m p 100 s) where
-    pub done_shown : HaltsBy 1 (PortWrite HALT_A c.r2 ∷ p) → Shown s DONE
+  module _ (c : Registers) (z : Cop0) (on : Bool) (p : List Access) (s : Run) (ks : Keep s) (h : Entered c z on m p 100 s) where
+    pub done_shown : HaltsBy stay 1 (PortWrite HALT_A c.r2 ∷ p) → Show s DONE
     done_shown stop =
-        walks (tree DONE_NODES) DONE (λ _. ⊥) (λ to e. Exits c.r2 c z.epc on m p 130 to e) s all.done ks (λ e x. absurd x) (λ a e g. low e g.holds) (λ e ke x. absurd x)
-        (λ a e ke g. subst (λ x. Shown e x) (sym g.to_is) (exit_shown c z.epc on p c.r2 e ke g.holds g.value_is stop)) (done_meets c z on m p 100 130 s h (omega arith))
+        walks m Z (tree DONE_NODES) DONE (λ _. ⊥) (λ to e. Exits c.r2 c z.epc on m p 130 to e) s all.done ks (λ e x. absurd x) (λ a e g. low e g.holds) (λ e ke x. absurd x)
+        (λ a e ke g. subst (λ x. Show e x) (sym g.to_is) (exit_shown c z.epc on p c.r2 e ke g.holds g.value_is stop)) (done_meets c z on m p 100 130 s h (omega arith))
       where
         low : (e : Run) → Holds c z.epc on m p 130 e → e.passed ≤ 200
         low e x = omega (arith, x.within)
 
-    pub back_shown : HaltsBy 7 (PortWrite HALT_A c.r31 ∷ p) → Shown s BACK
+    pub back_shown : HaltsBy stay 7 (PortWrite HALT_A c.r31 ∷ p) → Show s BACK
     back_shown stop = stops_here (tree BACK_NODES) BACK 7 (PortWrite HALT_A c.r31 ∷ p) s all.back ks stop (back_meets c z on m p 100 200 s h (omega arith))
 
-    pub unserved_shown : (table : ℕ) → s.regs.r10 ≡ table → HaltsBy 3 (PortWrite HALT_C c.r31 ∷ PortWrite HALT_B c.r9 ∷ PortWrite HALT_A table ∷ p) → Shown s UNSERVED
+    pub unserved_shown : (table : ℕ) → s.regs.r10 ≡ table → HaltsBy stay 3 (PortWrite HALT_C c.r31 ∷ PortWrite HALT_B c.r9 ∷ PortWrite HALT_A table ∷ p) → Show s UNSERVED
     unserved_shown table e stop =
         stops_here (tree UNSERVED_NODES) UNSERVED 3 (PortWrite HALT_C c.r31 ∷ PortWrite HALT_B c.r9 ∷ PortWrite HALT_A table ∷ p) s all.unserved ks stop (unserved_meets c z on m p 100 200 s h (omega arith) table e)
 
-    pub exception_shown : (code : ℕ) (slot : Bool) → z.cause ≡ cause_of code slot → code < 32 → HaltsBy 2 (PortWrite HALT_B z.epc ∷ PortWrite HALT_A code ∷ p) → Shown s EXCEPTION
+    pub exception_shown : (code : ℕ) (slot : Bool) → z.cause ≡ cause_of code slot → code < 32 → HaltsBy stay 2 (PortWrite HALT_B z.epc ∷ PortWrite HALT_A code ∷ p) → Show s EXCEPTION
     exception_shown code slot e small stop =
         stops_here (tree EXCEPTION_NODES) EXCEPTION 2 (PortWrite HALT_B z.epc ∷ PortWrite HALT_A code ∷ p) s all.exception ks stop (exception_meets c z on m p 100 200 s h (omega arith) code slot e small)
 
-    pub putchar_shown : Returns (record c { r2 = c.r4 % 2 ^ 8 }) c.r31 on (PortWrite CONSOLE_DATA c.r4 ∷ p) → Shown s PUTCHAR
-    putchar_shown r =
-        let q : List Access = PortWrite CONSOLE_DATA c.r4 ∷ p in
-        let P : ℕ → Type 0 = λ v. Returns (record c { r2 = v }) c.r31 on q in
-        walks (tree PUTCHAR_NODES) PUTCHAR (λ _. ⊥) (λ to e. Answers (c.r4 % 2 ^ 8) c z.epc on m q 130 to e) s all.putchar ks (λ e x. absurd x) (λ a e g. low e g.holds) (λ e ke x. absurd x)
-        (λ a e ke g. subst (λ x. Shown e x) (sym g.to_is) (leave_shown c z.epc on q e ke g.holds (subst P (sym g.answer) r))) (putchar_meets c z on m p 100 130 s h (omega arith))
-      where
-        low : (e : Run) → Holds c z.epc on m (PortWrite CONSOLE_DATA c.r4 ∷ p) 130 e → e.passed ≤ 200
-        low e x = omega (arith, x.within)
+  pub putchar_shown : (c : Registers) (pc : ℕ) (on : Bool) (p : List Access) (s : Run) → Keep s → Holds c pc on m p 100 s → s.regs.r4 ≡ c.r4 → Returns stay (record c { r2 = c.r4 % 2 ^ 8 }) c.r31 on (PortWrite CONSOLE_DATA c.r4 ∷ p) → Show s PUTCHAR
+  putchar_shown c pc on p s ks h r4 r =
+      let q : List Access = PortWrite CONSOLE_DATA c.r4 ∷ p in
+      let P : ℕ → Type 0 = λ v. Returns stay (record c { r2 = v }) c.r31 on q in
+      walks m Z (tree PUTCHAR_NODES) PUTCHAR (λ _. ⊥) (λ to e. Answers (c.r4 % 2 ^ 8) c pc on m q 130 to e) s all.putchar ks (λ e x. absurd x) (λ a e g. low e g.holds) (λ e ke x. absurd x)
+      (λ a e ke g. subst (λ x. Show e x) (sym g.to_is) (leave_shown c pc on q e ke g.holds (subst P (sym g.answer) r))) (putchar_meets c pc on m p 100 130 s h (omega arith) r4)
+    where
+      low : (e : Run) → Holds c pc on m (PortWrite CONSOLE_DATA c.r4 ∷ p) 130 e → e.passed ≤ 200
+      low e x = omega (arith, x.within)
+
+  pub bad_pointer_shown : (c : Registers) (pc : ℕ) (on : Bool) (p : List Access) (v : ℕ) (s : Run) → Keep s → Holds c pc on m p 130 s → s.regs.r8 ≡ v → HaltsBy stay 4 (PortWrite HALT_B c.r31 ∷ PortWrite HALT_A v ∷ p) → Show s BAD_POINTER
+  bad_pointer_shown c pc on p v s ks h e stop =
+      stops_here (tree BAD_POINTER_NODES) BAD_POINTER 4 (PortWrite HALT_B c.r31 ∷ PortWrite HALT_A v ∷ p) s all.bad_pointer ks stop (bad_pointer_meets c pc on m p 130 200 s h (omega arith) v e)

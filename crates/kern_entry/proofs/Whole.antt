@@ -1,7 +1,7 @@
 -- From the vector on each stay is made: by its entrance, and a call by its row.
-use Rattle.std.proofs.Common.{◌≡◌, ℕ, zero, suc, ◌+◌, ◌-◌, ◌*◌, ◌%◌, ◌^◌, ◌<◌, ◌≤◌, List, [], ◌∷◌, Bool, true, false, Option, Some, None, refl, sym, ap, ◌∙◌, subst, arith}
-use Rattle.std.specs.Prelude.{if◌then◌else◌, unwrap_or}
-use Rattle.std.proofs.lemmas.Bool.{lt-ltb}
+use Rattle.std.proofs.Common.{◌≡◌, ℕ, zero, suc, ◌+◌, ◌-◌, ◌*◌, ◌%◌, ◌^◌, ◌<◌, ◌≤◌, List, [], ◌∷◌, Bool, true, false, Option, Some, None, inl, inr, refl, sym, ap, ◌∙◌, subst, arith}
+use Rattle.std.specs.Prelude.{nat_eq, if◌then◌else◌, unwrap_or}
+use Rattle.std.proofs.lemmas.Bool.{lt-ltb, false≢true}
 use Rattle.psx_base.specs.declared.ports.TheConstants.{HALT_A, HALT_B, HALT_C}
 use Rattle.psx_base.specs.declared.stop.Table.{Table}
 use Rattle.psx_base.specs.declared.stop.Table.TheVariants.{A, B, C, Sys}
@@ -15,7 +15,10 @@ use Rattle.psx_base.specs.KernelState.{KernelState}
 use Rattle.psx_cpu.specs.Processor.{Core, Cop0}
 use Rattle.psx_cpu.specs.Exceptions.{cause_of, entered_sr, vector, enter}
 use Rattle.psx_ports.specs.HaltCodes.{table_of}
-use Rattle.psx_flow.specs.Run.{Run, Access, PortWrite}
+use Rattle.psx_flow.specs.Run.{Run, Access, PortWrite, state_at}
+use Rattle.psx_flow.specs.Plain.{kernel_core}
+use Rattle.kern_layout.specs.Fields.{Block}
+use Rattle.kern_layout.specs.Contexts.{saved}
 use Rattle.psx_flow.specs.Kernel.{kernel_words}
 use Rattle.psx_flow.specs.Tree.{Tree}
 use Rattle.psx_flow.specs.Meets.{Meets, calls}
@@ -23,7 +26,6 @@ use Rattle.psx_flow.specs.Reaches.{IsPlaced, Keeps}
 use Rattle.kern_layout.specs.Contexts.{saved_sr_of}
 use Rattle.kern_layout.specs.Stands.{user_sr}
 use Rattle.abs_kernel.specs.declared.calls.CallId.{CallId}
-use Rattle.abs_kernel.specs.declared.calls.CallId.TheVariants.{A06, A3A, A3C, B38, B3D}
 use Rattle.abs_kernel.specs.CallTable.{served_call}
 use Rattle.abs_kernel.specs.Cause.{entrance, entrance_of}
 use Rattle.abs_kernel.specs.Stay.{Stay}
@@ -31,21 +33,23 @@ use Rattle.abs_kernel.specs.Answered.{with_running, with_answer}
 use Rattle.abs_kernel.specs.Sys.{with_interrupts, syscall}
 use Rattle.abs_kernel.specs.Calls.{call, by_row}
 use Rattle.abs_kernel.specs.KernelStep.{settled_state, by_entrance, stay_of}
-use Rattle.kern_entry.specs.declared.places.TheConstants.{VECTOR, SAVE, CAUSES, CALL_A, CALL_B, CALL_C, SYSCALLS, BEHIND, EXIT, PUTCHAR, EXCEPTION}
+use Rattle.kern_entry.specs.declared.places.TheConstants.{VECTOR, SAVE, CAUSES, CALL_A, CALL_B, CALL_C, SYSCALLS, BEHIND, EXCEPTION}
 use Rattle.kern_entry.specs.declared.save.TheConstants.{VECTOR_NODES, SAVE_NODES, CAUSES_NODES}
 use Rattle.kern_entry.specs.declared.calls.TheConstants.{CALL_A_NODES, CALL_B_NODES, CALL_C_NODES}
 use Rattle.kern_entry.specs.declared.sys.TheConstants.{SYSCALLS_NODES}
 use Rattle.kern_entry.specs.EntryWords.{tree}
-use Rattle.kern_entry.specs.Within.{Within}
+use Rattle.kern_entry.specs.Within.{Aim, Within}
 use Rattle.kern_entry.specs.Made.{Made}
-use Rattle.kern_entry.specs.EntryLaws.{StaysAreMade}
-use Rattle.kern_entry.proofs.WorkArea.{Holds, Entered}
+use Rattle.kern_entry.specs.Tables.{destination, TableAt, TablesRead}
+use Rattle.kern_entry.specs.EntryLaws.{KeepsRest, AtRoutine, Begins, StaysBegin, kernel_at}
+use Rattle.kern_entry.proofs.WorkArea.{held, Holds, Entered}
 use Rattle.kern_entry.proofs.Saving.{Arrived, vector_meets, save_meets}
 use Rattle.kern_entry.proofs.Choosing.{arrival, causes_meets}
-use Rattle.kern_entry.proofs.Lookup.{destination, TableAt, Called, call_a_meets, call_b_meets, call_c_meets}
+use Rattle.kern_entry.proofs.Lookup.{Called, call_a_meets, call_b_meets, call_c_meets}
 use Rattle.kern_entry.proofs.Routines.{was_on, SysGoes, SysStops, sys_meets}
 use Rattle.kern_entry.proofs.Placed.{AllPlaced, all_placed}
-use Rattle.kern_entry.proofs.Stages.{Shown, walks, Returns, exit_shown, done_shown, back_shown, unserved_shown, exception_shown, putchar_shown, behind_shown, stops_here}
+use Rattle.kern_entry.proofs.Stages.{Shown, walks, Returns, done_shown, back_shown, unserved_shown, exception_shown, behind_shown, stops_here}
+use Rattle.kern_entry.proofs.Walk.{within_here}
 
 -- the table that a word of a halt names
 abbrev table_number : Table → ℕ
@@ -68,17 +72,33 @@ word_kept m e p ke low =
     let e0 = b p (omega arith) in let e1 = b (p + 1) (omega arith) in let e2 = b (p + 2) (omega arith) in let e3 = b (p + 3) (omega arith) in
     λ i. e0 i + e1 i * 2 ^ 8 + e2 i * 2 ^ 16 + e3 i * 2 ^ 24
 
-table_kept : (m : Memory) (e : Run) (T : Table) (at count : ℕ) → Keeps kernel_words m e → at + 4 * count ≤ 0xB000 → TableAt m T at count → TableAt e.bytes T at count
-table_kept m e T at count ke low t = record { within = λ n lt. word_kept m e (at + 4 * n) ke (omega arith) ∙ t.within n lt; behind = t.behind }
+table_kept : (go : CallId → ℕ) (m : Memory) (e : Run) (T : Table) (at count : ℕ) → Keeps kernel_words m e → at + 4 * count ≤ 0xB000 → TableAt go m T at count → TableAt go e.bytes T at count
+table_kept go m e T at count ke low t = λ n lt. word_kept m e (at + 4 * n) ke (omega arith) ∙ t n lt
 
 further : (c : Registers) (pc : ℕ) (on : Bool) (m : Memory) (p : List Access) (most more : ℕ) (e : Run) → most ≤ more → Holds c pc on m p most e → Holds c pc on m p more e
 further c pc on m p most more e le h = record { area = h.area; spared = h.spared; ports = h.ports; within = omega (arith, h.within) }
 
 further_in : (c : Registers) (z : Cop0) (on : Bool) (m : Memory) (p : List Access) (most more : ℕ) (e : Run) → most ≤ more → Entered c z on m p most e → Entered c z on m p more e
-further_in c z on m p most more e le h = record { holds = further c z.epc on m p most more e le h.holds; r2 = h.r2; r4 = h.r4; r9 = h.r9; r31 = h.r31; cop0 = h.cop0 }
+further_in c z on m p most more e le h = record { holds = further c z.epc on m p most more e le h.holds; r2 = h.r2; r4 = h.r4; r9 = h.r9; r31 = h.r31; args = h.args; cop0 = h.cop0 }
 
--- in a memory with the entry's words, from a state and a code, with coprocessor 0 as the entry leaves it
-module _ (m : Memory) (all : AllPlaced m) (s : KernelState) (code sr bad : ℕ) (small : code < 32) where
+-- the gates' calls are in no slot
+abbrev is_table : Entrance → Bool
+is_table ByA = true
+is_table ByB = true
+is_table ByC = true
+is_table _ = false
+
+no_slot : (code : ℕ) (slot : Bool) (epc : ℕ) (by : Entrance) → entrance code slot epc ≡ by → is_table by ≡ true → slot ≡ false
+no_slot code false epc by e h = refl
+no_slot code true epc by e h = absurd (false≢true (sym (trapped (nat_eq code 0) (nat_eq code 8)) ∙ (ap is_table e ∙ h)))
+  where
+    trapped : (a b : Bool) → is_table (if a then ByInterrupt else (if b then ByTrap else ByTrap)) ≡ false
+    trapped true b = refl
+    trapped false true = refl
+    trapped false false = refl
+
+-- in a memory with the entry's words and the tables, from a state and a code, with coprocessor 0 as the entry leaves it
+module _ (go : CallId → ℕ) (m : Memory) (all : AllPlaced m) (tables : TablesRead go m) (s : KernelState) (code sr bad : ℕ) (small : code < 32) where
   abbrev t : KernelState
   t = settled_state s
 
@@ -91,17 +111,17 @@ module _ (m : Memory) (all : AllPlaced m) (s : KernelState) (code sr bad : ℕ) 
   abbrev z : Cop0
   z = record { sr = sr; cause = cause_of code s.running.context.in_slot; epc = epc_of s.running.context; bad_address = bad }
 
-  exits_shown : (e : Run) → Keeps kernel_words m e → Entered c z on m [] 100 e → Shown m all (call A06 t) e EXIT
-  exits_shown e ke h =
-      exit_shown m all (call A06 t) c z.epc on [] c.r4 e ke (further c z.epc on m [] 100 130 e (omega arith) h.holds) h.r4 (record { stop = Exit c.r4; memory = s.memory; follows = (tt, refl); is = refl; stops = λ x y w. refl })
+  abbrev Z : Stay → Aim
+  Z stay = Begins go m s stay
 
-  puts_shown : (e : Run) → Keeps kernel_words m e → Entered c z on m [] 100 e → Shown m all (call A3C t) e PUTCHAR
-  puts_shown e ke h =
-      let byte : ℕ = c.r4 % 2 ^ 8 in
-      putchar_shown m all (call A3C t) c z on [] e ke h (record { state = with_running t (with_answer (taken t.running.context c.r31) byte); follows = (tt, (refl, refl)); is = refl; context = refl; interrupts = refl })
+  abbrev Show : Stay → Run → ℕ → Type 0
+  Show stay e at = Shown m (Z stay) e at
 
-  trap_shown : (e : Run) → Keeps kernel_words m e → Entered c z on m [] 100 e → Shown m all (by_entrance ByTrap code t) e EXCEPTION
-  trap_shown e ke h = exception_shown m all (by_entrance ByTrap code t) c z on [] e ke h code s.running.context.in_slot refl small (record {
+  mine : (stay : Stay) → KeepsRest s stay → (k : Core) (q : List Access) → Made m stay k q → Z stay k q
+  mine stay own k q h = inl (own, h)
+
+  trap_shown : (e : Run) → Keeps kernel_words m e → Entered c z on m [] 100 e → Show (by_entrance ByTrap code t) e EXCEPTION
+  trap_shown e ke h = exception_shown m all (by_entrance ByTrap code t) (Z (by_entrance ByTrap code t)) (mine (by_entrance ByTrap code t) refl) c z on [] e ke h code s.running.context.in_slot refl small (record {
     stop = Exception code z.epc;
     memory = s.memory;
     follows = ((tt, refl), refl);
@@ -109,27 +129,37 @@ module _ (m : Memory) (all : AllPlaced m) (s : KernelState) (code sr bad : ℕ) 
     stops = λ x y w. refl;
   })
 
-  -- a call by its row
-  called : (T : Table) (o : Option CallId) (e : Run) → Keeps kernel_words m e → Entered c z on m [] 100 e → e.regs.r10 ≡ table_number T → Shown m all (by_row T o t) e (destination o)
-  called T None e ke h r = unserved_shown m all (by_row T None t) c z on [] e ke h (table_number T) r (record {
+  -- a call by its row: its routine is arrived at
+  arrives : s.running.context.in_slot ≡ false → (id : CallId) (e : Run) → Keeps kernel_words m e → Entered c z on m [] 100 e → AtRoutine go m s (call id t) (kernel_core (state_at e (go id))) e.seen
+  arrives out id e ke h = record {
+    id = id;
+    is = refl;
+    regs = e.regs;
+    cop0 = e.cop0;
+    core = (λ i. kernel_at (record e.regs { r4 = h.r4 i; r5 = h.args.0 i; r6 = h.args.1 i; r7 = h.args.2 i; r29 = h.args.3 i }) e.cop0 e.bytes (go id));
+    off = ke.masked;
+    out = out;
+    area = subst (λ x. Block (word e.bytes) 0xEB00 (saved (held c x on))) (ap (λ b. if b then (s.running.context.pc + (2 ^ 32 - 4)) % 2 ^ 32 else s.running.context.pc) out) h.holds.area;
+    spared = h.holds.spared;
+    quiet = h.holds.ports;
+  }
+
+  called : s.running.context.in_slot ≡ false → (T : Table) (o : Option CallId) (e : Run) → Keeps kernel_words m e → Entered c z on m [] 100 e → e.regs.r10 ≡ table_number T → Show (by_row T o t) e (destination go o)
+  called out T None e ke h r = unserved_shown m all (by_row T None t) (Z (by_row T None t)) (mine (by_row T None t) refl) c z on [] e ke h (table_number T) r (record {
     stop = Unserved T c.r9 c.r31;
     memory = s.memory;
     follows = (((tt, refl), refl), refl);
     is = refl;
     stops = λ x y w. ap (λ n. Some (Unserved n c.r9 c.r31)) (table_is T);
   })
-  called T (Some A06) e ke h r = exits_shown e ke h
-  called T (Some A3A) e ke h r = exits_shown e ke h
-  called T (Some A3C) e ke h r = puts_shown e ke h
-  called T (Some B38) e ke h r = exits_shown e ke h
-  called T (Some B3D) e ke h r = puts_shown e ke h
+  called out T (Some id) e ke h r = λ n few. within_here (Z (call id t)) n (kernel_core (state_at e (go id))) e.seen (inr (arrives out id e ke h))
 
-  table_shown : (T : Table) (tr : Tree) (at : ℕ) (e : Run) → IsPlaced kernel_words m at tr → Keeps kernel_words m e → Meets kernel_words (calls kernel_words []) tr at (λ _. ⊥) (λ to x. Called T (table_number T) c z on m [] 100 to x) e
-      → Shown m all (by_row T (served_call T c.r9) t) e at
-  table_shown T tr at e pl ke me =
+  table_shown : s.running.context.in_slot ≡ false → (T : Table) (tr : Tree) (at : ℕ) (e : Run) → IsPlaced kernel_words m at tr → Keeps kernel_words m e → Meets kernel_words (calls kernel_words []) tr at (λ _. ⊥) (λ to x. Called go T (table_number T) c z on m [] 100 to x) e
+      → Show (by_row T (served_call T c.r9) t) e at
+  table_shown out T tr at e pl ke me =
       let stay = by_row T (served_call T c.r9) t in
-      walks m all stay tr at (λ _. ⊥) (λ to x. Called T (table_number T) c z on m [] 100 to x) e pl ke (λ x b. absurd b) (λ a x g. low x g.entered) (λ x kx b. absurd b)
-      (λ a x kx g. subst (λ n. Shown m all stay x n) (sym g.to_is) (called T (served_call T c.r9) x kx g.entered g.table_is)) me
+      walks m (Z stay) tr at (λ _. ⊥) (λ to x. Called go T (table_number T) c z on m [] 100 to x) e pl ke (λ x b. absurd b) (λ a x g. low x g.entered) (λ x kx b. absurd b)
+      (λ a x kx g. subst (λ n. Show stay x n) (sym g.to_is) (called out T (served_call T c.r9) x kx g.entered g.table_is)) me
     where
       low : (x : Run) → Entered c z on m [] 100 x → x.passed ≤ 200
       low x h = omega (arith, h.holds.within)
@@ -138,26 +168,26 @@ module _ (m : Memory) (all : AllPlaced m) (s : KernelState) (code sr bad : ℕ) 
   abbrev behind : ℕ
   behind = (epc_of s.running.context + 4) % 2 ^ 32
 
-  sys_goes : (n : ℕ) (d : Registers) (off : Bool) (e : Run) → Keeps kernel_words m e → Returns m all (syscall n t) d behind off [] → ((x : Run) → SysStops n z.epc m [] 130 x → ⊥) → ((to : ℕ) (x : Run) → SysGoes n c z.epc on m [] 130 to x → (to ≡ BEHIND) × Holds d z.epc off m [] 130 x)
-      → Meets kernel_words (calls kernel_words []) (tree SYSCALLS_NODES) SYSCALLS (λ x. SysStops n z.epc m [] 130 x) (λ to x. SysGoes n c z.epc on m [] 130 to x) e → Shown m all (syscall n t) e SYSCALLS
-  sys_goes n d off e ke r none goes me =
+  sys_goes : (n : ℕ) (d : Registers) (off : Bool) (e : Run) → Keeps kernel_words m e → KeepsRest s (syscall n t) → Returns (syscall n t) d behind off [] → ((x : Run) → SysStops n z.epc m [] 130 x → ⊥) → ((to : ℕ) (x : Run) → SysGoes n c z.epc on m [] 130 to x → (to ≡ BEHIND) × Holds d z.epc off m [] 130 x)
+      → Meets kernel_words (calls kernel_words []) (tree SYSCALLS_NODES) SYSCALLS (λ x. SysStops n z.epc m [] 130 x) (λ to x. SysGoes n c z.epc on m [] 130 to x) e → Show (syscall n t) e SYSCALLS
+  sys_goes n d off e ke own r none goes me =
       let stay = syscall n t in
-      walks m all stay (tree SYSCALLS_NODES) SYSCALLS (λ x. SysStops n z.epc m [] 130 x) (λ to x. SysGoes n c z.epc on m [] 130 to x) e all.syscalls ke (λ x b. absurd (none x b)) (λ a x g. low x (goes a x g).1) (λ x kx b. absurd (none x b))
-      (λ a x kx g. let f = goes a x g in subst (λ y. Shown m all stay x y) (sym f.0) (behind_shown m all stay d z.epc off [] x kx f.1 r)) me
+      walks m (Z stay) (tree SYSCALLS_NODES) SYSCALLS (λ x. SysStops n z.epc m [] 130 x) (λ to x. SysGoes n c z.epc on m [] 130 to x) e all.syscalls ke (λ x b. absurd (none x b)) (λ a x g. low x (goes a x g).1) (λ x kx b. absurd (none x b))
+      (λ a x kx g. let f = goes a x g in subst (λ y. Show stay x y) (sym f.0) (behind_shown m all stay (Z stay) (mine stay own) d z.epc off [] x kx f.1 r)) me
     where
       low : (x : Run) → Holds d z.epc off m [] 130 x → x.passed ≤ 200
       low x h = omega (arith, h.within)
 
-  sys_shown : (n : ℕ) (e : Run) → Keeps kernel_words m e → Entered c z on m [] 100 e → e.regs.r4 ≡ n → Shown m all (syscall n t) e SYSCALLS
+  sys_shown : (n : ℕ) (e : Run) → Keeps kernel_words m e → Entered c z on m [] 100 e → e.regs.r4 ≡ n → Show (syscall n t) e SYSCALLS
   sys_shown zero e ke h q =
-      sys_goes zero c on e ke (record { state = with_running t (taken t.running.context behind); follows = tt; is = refl; context = refl; interrupts = refl }) (λ x b. b) (λ to x g. g) (sys_meets c z on m [] 100 130 e h (omega arith) 0 q)
+      sys_goes zero c on e ke refl (record { state = with_running t (taken t.running.context behind); follows = tt; is = refl; context = refl; interrupts = refl }) (λ x b. b) (λ to x g. g) (sys_meets c z on m [] 100 130 e h (omega arith) 0 q)
   sys_shown (suc zero) e ke h q =
-      sys_goes 1 (record c { r2 = was_on on }) false e ke (record { state = with_interrupts (with_running t (with_answer (taken t.running.context behind) (was_on on))) false; follows = tt; is = refl; context = refl; interrupts = refl }) (λ x b. b) (λ to x g. g) (sys_meets c z on m [] 100 130 e h (omega arith) 1 q)
+      sys_goes 1 (record c { r2 = was_on on }) false e ke refl (record { state = with_interrupts (with_running t (with_answer (taken t.running.context behind) (was_on on))) false; follows = tt; is = refl; context = refl; interrupts = refl }) (λ x b. b) (λ to x g. g) (sys_meets c z on m [] 100 130 e h (omega arith) 1 q)
   sys_shown (suc (suc zero)) e ke h q =
-      sys_goes 2 c true e ke (record { state = with_running (with_interrupts t true) (taken t.running.context behind); follows = tt; is = refl; context = refl; interrupts = refl }) (λ x b. b) (λ to x g. g) (sys_meets c z on m [] 100 130 e h (omega arith) 2 q)
+      sys_goes 2 c true e ke refl (record { state = with_running (with_interrupts t true) (taken t.running.context behind); follows = tt; is = refl; context = refl; interrupts = refl }) (λ x b. b) (λ to x g. g) (sys_meets c z on m [] 100 130 e h (omega arith) 2 q)
   sys_shown (suc (suc (suc n))) e ke h q =
       let number : ℕ = suc (suc (suc n)) in
-      stops_here m all (syscall number t) (tree SYSCALLS_NODES) SYSCALLS 3 (PortWrite HALT_C z.epc ∷ PortWrite HALT_B number ∷ PortWrite HALT_A 3 ∷ []) e all.syscalls ke (record {
+      stops_here m all (syscall number t) (Z (syscall number t)) (mine (syscall number t) refl) (tree SYSCALLS_NODES) SYSCALLS 3 (PortWrite HALT_C z.epc ∷ PortWrite HALT_B number ∷ PortWrite HALT_A 3 ∷ []) e all.syscalls ke (record {
         stop = Unserved Sys number z.epc;
         memory = s.memory;
         follows = (((tt, refl), refl), refl);
@@ -166,15 +196,15 @@ module _ (m : Memory) (all : AllPlaced m) (s : KernelState) (code sr bad : ℕ) 
       }) (sys_meets c z on m [] 100 200 e h (omega arith) number q)
 
   -- an entry by its entrance
-  arrived : (by : Entrance) (e : Run) → Keeps kernel_words m e → Entered c z on m [] 80 e → Shown m all (by_entrance by code t) e (arrival by)
-  arrived ByA e ke h = table_shown A (tree CALL_A_NODES) CALL_A e all.call_a ke (call_a_meets c z on m [] 80 100 e h (omega arith) (table_kept m e A 0x200 0xC0 ke (omega arith) all.table_a))
-  arrived ByB e ke h = table_shown B (tree CALL_B_NODES) CALL_B e all.call_b ke (call_b_meets c z on m [] 80 100 e h (omega arith) (table_kept m e B 0x874 0x5F ke (omega arith) all.table_b))
-  arrived ByC e ke h = table_shown C (tree CALL_C_NODES) CALL_C e all.call_c ke (call_c_meets c z on m [] 80 100 e h (omega arith) (table_kept m e C 0x674 0x20 ke (omega arith) all.table_c))
-  arrived BySyscall e ke h = sys_shown c.r4 e ke (further_in c z on m [] 80 100 e (omega arith) h) h.r4
-  arrived ByInterrupt e ke h = trap_shown e ke (further_in c z on m [] 80 100 e (omega arith) h)
-  arrived ByTrap e ke h = trap_shown e ke (further_in c z on m [] 80 100 e (omega arith) h)
-  arrived ByDone e ke h = done_shown m all (by_entrance ByDone code t) c z on [] e ke (further_in c z on m [] 80 100 e (omega arith) h) (record { stop = Exit c.r2; memory = s.memory; follows = (tt, refl); is = refl; stops = λ x y w. refl })
-  arrived ByBack e ke h = back_shown m all (by_entrance ByBack code t) c z on [] e ke (further_in c z on m [] 80 100 e (omega arith) h) (record { stop = BadReturn c.r31; memory = s.memory; follows = (tt, refl); is = refl; stops = λ x y w. refl })
+  arrived : (by : Entrance) → entrance code s.running.context.in_slot z.epc ≡ by → (e : Run) → Keeps kernel_words m e → Entered c z on m [] 80 e → Show (by_entrance by code t) e (arrival by)
+  arrived ByA is e ke h = table_shown (no_slot code s.running.context.in_slot z.epc ByA is refl) A (tree CALL_A_NODES) CALL_A e all.call_a ke (call_a_meets go tables.there c z on m [] 80 100 e h (omega arith) (table_kept go m e A 0x200 0xC0 ke (omega arith) tables.a))
+  arrived ByB is e ke h = table_shown (no_slot code s.running.context.in_slot z.epc ByB is refl) B (tree CALL_B_NODES) CALL_B e all.call_b ke (call_b_meets go tables.there c z on m [] 80 100 e h (omega arith) (table_kept go m e B 0x874 0x5F ke (omega arith) tables.b))
+  arrived ByC is e ke h = table_shown (no_slot code s.running.context.in_slot z.epc ByC is refl) C (tree CALL_C_NODES) CALL_C e all.call_c ke (call_c_meets go tables.there c z on m [] 80 100 e h (omega arith) (table_kept go m e C 0x674 0x20 ke (omega arith) tables.c))
+  arrived BySyscall is e ke h = sys_shown c.r4 e ke (further_in c z on m [] 80 100 e (omega arith) h) h.r4
+  arrived ByInterrupt is e ke h = trap_shown e ke (further_in c z on m [] 80 100 e (omega arith) h)
+  arrived ByTrap is e ke h = trap_shown e ke (further_in c z on m [] 80 100 e (omega arith) h)
+  arrived ByDone is e ke h = done_shown m all (by_entrance ByDone code t) (Z (by_entrance ByDone code t)) (mine (by_entrance ByDone code t) refl) c z on [] e ke (further_in c z on m [] 80 100 e (omega arith) h) (record { stop = Exit c.r2; memory = s.memory; follows = (tt, refl); is = refl; stops = λ x y w. refl })
+  arrived ByBack is e ke h = back_shown m all (by_entrance ByBack code t) (Z (by_entrance ByBack code t)) (mine (by_entrance ByBack code t) refl) c z on [] e ke (further_in c z on m [] 80 100 e (omega arith) h) (record { stop = BadReturn c.r31; memory = s.memory; follows = (tt, refl); is = refl; stops = λ x y w. refl })
 
   -- from the causes on, from the save and from the vector
   abbrev own : Entrance
@@ -183,18 +213,18 @@ module _ (m : Memory) (all : AllPlaced m) (s : KernelState) (code sr bad : ℕ) 
   abbrev whole : Stay
   whole = by_entrance own code t
 
-  causes_shown : (code ≡ 8 → s.running.context.in_slot ≡ false → is_mirrored z.epc ≡ true) → (e : Run) → Keeps kernel_words m e → Entered c z on m [] 40 e → Shown m all whole e CAUSES
+  causes_shown : (code ≡ 8 → s.running.context.in_slot ≡ false → is_mirrored z.epc ≡ true) → (e : Run) → Keeps kernel_words m e → Entered c z on m [] 40 e → Show whole e CAUSES
   causes_shown mirror e ke h =
-      walks m all whole (tree CAUSES_NODES) CAUSES (λ _. ⊥) (λ to x. (to ≡ arrival own) × Entered c z on m [] 80 x) e all.causes ke (λ x b. absurd b) (λ a x g. low x g.1) (λ x kx b. absurd b)
-      (λ a x kx g. subst (λ n. Shown m all whole x n) (sym g.0) (arrived own x kx g.1)) (causes_meets c code s.running.context.in_slot z on m [] 40 80 e h refl small mirror (omega arith))
+      walks m (Z whole) (tree CAUSES_NODES) CAUSES (λ _. ⊥) (λ to x. (to ≡ arrival own) × Entered c z on m [] 80 x) e all.causes ke (λ x b. absurd b) (λ a x g. low x g.1) (λ x kx b. absurd b)
+      (λ a x kx g. subst (λ n. Show whole x n) (sym g.0) (arrived own refl x kx g.1)) (causes_meets c code s.running.context.in_slot z on m [] 40 80 e h refl small mirror (omega arith))
     where
       low : (x : Run) → Entered c z on m [] 80 x → x.passed ≤ 200
       low x g = omega (arith, g.holds.within)
 
-  save_shown : z.sr ≡ saved_sr_of on → (code ≡ 8 → s.running.context.in_slot ≡ false → is_mirrored z.epc ≡ true) → (e : Run) → Keeps kernel_words m e → Arrived c z m 1 e → Shown m all whole e SAVE
+  save_shown : z.sr ≡ saved_sr_of on → (code ≡ 8 → s.running.context.in_slot ≡ false → is_mirrored z.epc ≡ true) → (e : Run) → Keeps kernel_words m e → Arrived c z m 1 e → Show whole e SAVE
   save_shown as_saved mirror e ke h =
-      walks m all whole (tree SAVE_NODES) SAVE (λ _. ⊥) (λ to x. (to ≡ CAUSES) × Entered e.regs e.cop0 on e.bytes [] 40 x) e all.save ke (λ x b. absurd b) (λ a x g. low x g.1) (λ x kx b. absurd b)
-      (λ a x kx g. subst (λ n. Shown m all whole x n) (sym g.0) (causes_shown mirror x kx (same x g.1))) (save_meets e on 40 (ap (λ y. y.sr) h.cop0 ∙ as_saved) h.seen (omega (arith, h.within)))
+      walks m (Z whole) (tree SAVE_NODES) SAVE (λ _. ⊥) (λ to x. (to ≡ CAUSES) × Entered e.regs e.cop0 on e.bytes [] 40 x) e all.save ke (λ x b. absurd b) (λ a x g. low x g.1) (λ x kx b. absurd b)
+      (λ a x kx g. subst (λ n. Show whole x n) (sym g.0) (causes_shown mirror x kx (same x g.1))) (save_meets e on 40 (ap (λ y. y.sr) h.cop0 ∙ as_saved) h.seen (omega (arith, h.within)))
     where
       low : (x : Run) → Entered e.regs e.cop0 on e.bytes [] 40 x → x.passed ≤ 200
       low x g = omega (arith, g.holds.within)
@@ -210,10 +240,10 @@ module _ (m : Memory) (all : AllPlaced m) (s : KernelState) (code sr bad : ℕ) 
   abbrev first : Run
   first = record { regs = c; cop0 = z; bytes = m; seen = []; passed = 0 }
 
-  pub vector_shown : z.sr ≡ saved_sr_of on → z.sr % 2 ≡ 0 → (code ≡ 8 → s.running.context.in_slot ≡ false → is_mirrored z.epc ≡ true) → Shown m all whole first VECTOR
+  pub vector_shown : z.sr ≡ saved_sr_of on → z.sr % 2 ≡ 0 → (code ≡ 8 → s.running.context.in_slot ≡ false → is_mirrored z.epc ≡ true) → Show whole first VECTOR
   vector_shown as_saved off mirror =
-      walks m all whole (tree VECTOR_NODES) VECTOR (λ _. ⊥) (λ to x. (to ≡ SAVE) × Arrived c z m 1 x) first all.vector (record { bytes = λ x e. refl; masked = off }) (λ x b. absurd b) (λ a x g. low x g.1) (λ x kx b. absurd b)
-      (λ a x kx g. subst (λ n. Shown m all whole x n) (sym g.0) (save_shown as_saved mirror x kx g.1)) (vector_meets first 1 refl (omega arith))
+      walks m (Z whole) (tree VECTOR_NODES) VECTOR (λ _. ⊥) (λ to x. (to ≡ SAVE) × Arrived c z m 1 x) first all.vector (record { bytes = λ x e. refl; masked = off }) (λ x b. absurd b) (λ a x g. low x g.1) (λ x kx b. absurd b)
+      (λ a x kx g. subst (λ n. Show whole x n) (sym g.0) (save_shown as_saved mirror x kx g.1)) (vector_meets first 1 refl (omega arith))
     where
       low : (x : Run) → Arrived c z m 1 x → x.passed ≤ 200
       low x g = omega (arith, g.within)
@@ -237,18 +267,18 @@ vector_is false = refl
 mirror_of : (x : Context) → x.in_slot ≡ false → is_mirrored x.pc ≡ true → is_mirrored (epc_of x) ≡ true
 mirror_of x out h = ap (λ b. is_mirrored (if b then (x.pc + (2 ^ 32 - 4)) % 2 ^ 32 else x.pc)) out ∙ h
 
-pub stays_are_made : StaysAreMade
+pub stays_begin : StaysBegin
 unfolding stay_of
-stays_are_made k s trap h =
+stays_begin go k s trap h =
     let on : Bool = s.running.interrupts in
     let m : Memory = k.bytes in
     let x : Context = s.running.context in
     let bad : ℕ = unwrap_or trap.bad k.processor.cop0.bad_address in
-    let made : Core → Type 0 = λ y. Within (Made m (by_entrance (entrance_of x trap.code) trap.code (settled_state s))) 802 y [] in
+    let made : Core → Type 0 = λ y. Within (Begins go m s (by_entrance (entrance_of x trap.code) trap.code (settled_state s))) 802 y [] in
     let cop : ℕ → Cop0 = λ sr. record { sr = entered_sr sr; cause = cause_of trap.code x.in_slot; epc = epc_of x; bad_address = bad } in
     let at : ℕ → ℕ → Core = λ sr pc. record { processor = record { context = placed (settle x) pc; cop0 = cop sr; latch = true }; bytes = m } in
     let begun : made (at (user_sr on) VECTOR) =
-    vector_shown m (all_placed m h.words) s trap.code (entered_sr (user_sr on)) bad h.code (sr_entered on) (sr_off on) (λ e out. mirror_of x out (h.mirrored e out)) 802 (omega arith) in
+    vector_shown go m (all_placed m h.words) h.tables s trap.code (entered_sr (user_sr on)) bad h.code (sr_entered on) (sr_off on) (λ e out. mirror_of x out (h.mirrored e out)) 802 (omega arith) in
     let placed_there : made (at (user_sr on) (vector (user_sr on))) = subst (λ a. made (at (user_sr on) a)) (sym (vector_is on)) begun in
     let by_sr : made (at k.processor.cop0.sr (vector k.processor.cop0.sr)) = subst (λ a. made (at a (vector a))) (sym h.sr) placed_there in
     subst (λ a. made (record k { processor = enter (record k.processor { context = a }) trap })) (sym h.context) by_sr

@@ -36,6 +36,7 @@ pub record Entered (c : Registers) (z : Cop0) (on : Bool) (m : Memory) (p : List
   pub r4 : e.regs.r4 ≡ c.r4
   pub r9 : e.regs.r9 ≡ c.r9
   pub r31 : e.regs.r31 ≡ c.r31
+  pub args : (e.regs.r5 ≡ c.r5) × (e.regs.r6 ≡ c.r6) × (e.regs.r7 ≡ c.r7) × (e.regs.r29 ≡ c.r29)
   pub cop0 : e.cop0 ≡ z
 
 -- ---- memory outside
@@ -108,14 +109,15 @@ pub holds_on : (c : Registers) (pc : ℕ) (on : Bool) (m : Memory) (p : List Acc
     → Holds c pc on m p more (record { regs = d; cop0 = z; bytes = s.bytes; seen = q; passed = n })
 holds_on c pc on m p most more s h d z q n e few = record { area = h.area; spared = h.spared; ports = e ∙ h.ports; within = few }
 
-pub entered_on : (c : Registers) (z : Cop0) (on : Bool) (m : Memory) (p : List Access) (most more : ℕ) (s : Run) → Entered c z on m p most s → (d : Registers) (q : List Access) (n : ℕ) → d.r2 ≡ s.regs.r2 → d.r4 ≡ s.regs.r4 → d.r9 ≡ s.regs.r9 → d.r31 ≡ s.regs.r31 → ports q ≡ ports s.seen → n ≤ more
+pub entered_on : (c : Registers) (z : Cop0) (on : Bool) (m : Memory) (p : List Access) (most more : ℕ) (s : Run) → Entered c z on m p most s → (d : Registers) (q : List Access) (n : ℕ) → d.r2 ≡ s.regs.r2 → d.r4 ≡ s.regs.r4 → d.r9 ≡ s.regs.r9 → d.r31 ≡ s.regs.r31 → (d.r5 ≡ s.regs.r5) × (d.r6 ≡ s.regs.r6) × (d.r7 ≡ s.regs.r7) × (d.r29 ≡ s.regs.r29) → ports q ≡ ports s.seen → n ≤ more
     → Entered c z on m p more (record { regs = d; cop0 = s.cop0; bytes = s.bytes; seen = q; passed = n })
-entered_on c z on m p most more s h d q n e2 e4 e9 e31 e few = record {
+entered_on c z on m p most more s h d q n e2 e4 e9 e31 a e few = record {
   holds = holds_on c z.epc on m p most more s h.holds d s.cop0 q n e few;
   r2 = e2 ∙ h.r2;
   r4 = e4 ∙ h.r4;
   r9 = e9 ∙ h.r9;
   r31 = e31 ∙ h.r31;
+  args = (a.0 ∙ h.args.0, a.1 ∙ h.args.1, a.2 ∙ h.args.2, a.3 ∙ h.args.3);
   cop0 = h.cop0;
 }
 

@@ -1,5 +1,5 @@
 -- That the entry's words make the stays of the written kernel machine.
-use Rattle.std.specs.Prelude.{◌≡◌, ℕ, ◌+◌, ◌%◌, ◌^◌, ◌<◌, true, false, None, []}
+use Rattle.std.specs.Prelude.{◌≡◌, ◌⊎◌, ℕ, ◌+◌, ◌%◌, ◌^◌, ◌<◌, List, true, false, None, []}
 use Rattle.psx_base.specs.Addresses.{is_mirrored}
 use Rattle.psx_base.specs.Context.{taken}
 use Rattle.psx_base.specs.Memory.{Memory, word}
@@ -11,31 +11,22 @@ use Rattle.kern_layout.specs.Numbers.{work_area}
 use Rattle.kern_layout.specs.Fields.{Block}
 use Rattle.kern_layout.specs.Contexts.{saved}
 use Rattle.kern_layout.specs.Stands.{user_sr}
-use Rattle.abs_kernel.specs.Stay.{Return}
-use Rattle.abs_kernel.specs.Answered.{with_answer}
-use Rattle.abs_kernel.specs.KernelStep.{stay_of}
+use Rattle.psx_base.specs.declared.stop.Stop.TheVariants.{BadPointer}
+use Rattle.psx_flow.specs.Run.{Access}
+use Rattle.psx_flow.specs.Told.{ports}
+use Rattle.abs_kernel.specs.declared.calls.CallId.{CallId}
+use Rattle.abs_kernel.specs.Stay.{Stay, Return, Halt}
+use Rattle.abs_kernel.specs.StayLaws.{EachEnd}
+use Rattle.abs_kernel.specs.Calls.{call}
+use Rattle.kern_stay.specs.declared.places.TheConstants.{WAIT, BAD_POINTER}
+use Rattle.kern_stay.specs.Doors.{called_with}
+use Rattle.abs_kernel.specs.Answered.{registers_of, with_answer}
+use Rattle.abs_kernel.specs.KernelStep.{settled_state, stay_of}
 use Rattle.kern_entry.specs.declared.places.TheConstants.{LEAVE, WORK}
 use Rattle.kern_entry.specs.Holding.{HoldsEntry}
-use Rattle.kern_entry.specs.Within.{Within}
-use Rattle.kern_entry.specs.Made.{Made}
-
--- An exception on the user side of a state, with the entry's words in memory. The address of a SYSCALL has a physical one, since the guard has let it pass.
-pub record Enters (k : Core) (s : KernelState) (trap : Trap) : Type 0 where
-  pub context : k.processor.context ≡ s.running.context
-  pub sr : k.processor.cop0.sr ≡ user_sr s.running.interrupts
-  pub code : trap.code < 32
-  pub mirrored : trap.code ≡ 8 → s.running.context.in_slot ≡ false → is_mirrored s.running.context.pc ≡ true
-  pub words : HoldsEntry k.bytes
-
--- how many steps there are from the vector to the return or to the halt
-abbrev pub most_steps : ℕ
-most_steps = 802
-
--- From the vector, whatever the bus brings at each step, the words make the stay of the state and the code.
-abbrev pub StaysAreMade : Type 0
-StaysAreMade = (k : Core) (s : KernelState) (trap : Trap) → Enters k s trap → Within (Made k.bytes (stay_of s trap.code)) most_steps (record k { processor = enter k.processor trap }) []
-
--- ---- where routines arrive
+use Rattle.kern_entry.specs.Tables.{TablesRead}
+use Rattle.kern_entry.specs.Within.{Aim, Within}
+use Rattle.kern_entry.specs.Made.{Spared, Made}
 
 -- the processor on the kernel's side at an address, with nothing pending
 abbrev pub kernel_at : Registers → Cop0 → Memory → ℕ → Core
@@ -47,6 +38,46 @@ kernel_at regs z m at = record {
   };
   bytes = m;
 }
+
+-- An exception on the user side of a state, with the entry's words in memory, and the tables with the calls' routines. The address of a SYSCALL has a physical one, since the guard has let it pass.
+pub record Enters (at : CallId → ℕ) (k : Core) (s : KernelState) (trap : Trap) : Type 0 where
+  pub context : k.processor.context ≡ s.running.context
+  pub sr : k.processor.cop0.sr ≡ user_sr s.running.interrupts
+  pub code : trap.code < 32
+  pub mirrored : trap.code ≡ 8 → s.running.context.in_slot ≡ false → is_mirrored s.running.context.pc ≡ true
+  pub words : HoldsEntry k.bytes
+  pub tables : TablesRead at k.bytes
+
+-- how many steps there are from the vector to a routine, to the return or to the halt
+abbrev pub most_steps : ℕ
+most_steps = 802
+
+-- a stay that changes the running context alone
+abbrev pub KeepsRest : KernelState → Stay → Type 0
+KeepsRest s stay = EachEnd (λ t. t ≡ record s { running = t.running }) (λ stop memory. memory ≡ s.memory) stay
+
+-- The processor stands at the routine of a call, with the caller's context saved and its arguments in registers; no port was accessed.
+pub record AtRoutine (at : CallId → ℕ) (first : Memory) (s : KernelState) (stay : Stay) (k : Core) (q : List Access) : Type 0 where
+  pub id : CallId
+  pub is : stay ≡ call id (settled_state s)
+  pub regs : Registers
+  pub cop0 : Cop0
+  pub core : k ≡ kernel_at (called_with (registers_of (settled_state s)) regs) cop0 k.bytes (at id)
+  pub off : cop0.sr % 2 ≡ 0
+  pub out : s.running.context.in_slot ≡ false
+  pub area : Block (word k.bytes) work_area (saved (settled_state s).running)
+  pub spared : Spared first k.bytes
+  pub quiet : ports q ≡ []
+
+-- either a stay is made, or it is that of a call, at whose routine the processor stands
+abbrev pub Begins : (CallId → ℕ) → Memory → KernelState → Stay → Aim
+Begins at first s stay k q = (KeepsRest s stay × Made first stay k q) ⊎ AtRoutine at first s stay k q
+
+-- From the vector, whatever the bus brings at each step, the words make the stay of the state and the code, or come to its routine.
+abbrev pub StaysBegin : Type 0
+StaysBegin = (at : CallId → ℕ) (k : Core) (s : KernelState) (trap : Trap) → Enters at k s trap → Within (Begins at k.bytes s (stay_of s trap.code)) most_steps (record k { processor = enter k.processor trap }) []
+
+-- ---- where routines arrive
 
 -- the entry's words are in memory, and the work area holds a context with nothing pending
 pub record HoldsContext (m : Memory) (t : ThreadContext) : Type 0 where
@@ -62,6 +93,24 @@ abbrev pub LeaveReturns : Type 0
 LeaveReturns =
     (regs : Registers) (z : Cop0) (m : Memory) (t : ThreadContext) (s : KernelState) → z.sr % 2 ≡ 0 → HoldsContext m t → s.running ≡ record { context = with_answer (taken t.context t.context.regs.r31) regs.r2; interrupts = t.interrupts }
     → Within (Made m (Return s)) most_leave_steps (kernel_at regs z m LEAVE) []
+
+-- From WAIT they return to the context as it is.
+abbrev pub WaitReturns : Type 0
+WaitReturns =
+    (regs : Registers) (z : Cop0) (m : Memory) (t : ThreadContext) (s : KernelState) → z.sr % 2 ≡ 0 → HoldsContext m t → s.running ≡ record { context = taken t.context t.context.pc; interrupts = t.interrupts }
+    → Within (Made m (Return s)) most_leave_steps (kernel_at regs z m WAIT) []
+
+-- From BAD_POINTER they stop with the address in r8 and the context's r31.
+abbrev pub BadPointerStops : Type 0
+BadPointerStops =
+    (regs : Registers) (z : Cop0) (m u : Memory) (t : ThreadContext) → z.sr % 2 ≡ 0 → HoldsContext m t
+    → Within (Made m (Halt (BadPointer regs.r8 t.context.regs.r31) u)) most_leave_steps (kernel_at regs z m BAD_POINTER) []
+
+-- exit and putchar, from where they are called
+abbrev pub OwnCalls : (at : ℕ) → (KernelState → Stay) → Type 0
+OwnCalls at stay =
+    (s : KernelState) (regs : Registers) (z : Cop0) (m : Memory) → z.sr % 2 ≡ 0 → HoldsContext m s.running
+    → Within (λ k q. KeepsRest s (stay s) × Made m (stay s) k q) most_steps (kernel_at (called_with (registers_of s) regs) z m at) []
 
 -- From WORK they return to the context as it is: no tasks are kept yet.
 abbrev pub WorkReturns : Type 0

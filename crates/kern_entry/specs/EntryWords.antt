@@ -1,29 +1,20 @@
--- The words of the entry: its listings, lowered, the vector, the gates, its table entries, and the two words that leave the kernel.
-use Rattle.std.specs.Prelude.{ℕ, ◌+◌, ◌*◌, ◌%◌, ◌^◌, List, [], ◌∷◌, ◌++◌, unwrap_or}
+-- The words of the entry: its listings, lowered, the vector, the gates, and the two words that leave the kernel.
+use Rattle.std.specs.Prelude.{ℕ, ◌%◌, ◌^◌, List, [], ◌∷◌, ◌++◌}
 use Rattle.psx_ins.specs.declared.reg.Reg.{Reg}
 use Rattle.psx_ins.specs.declared.ins.Ins.TheVariants.{SYSCALL, JR, RFE}
 use Rattle.psx_ins.specs.Words.{word}
-use Rattle.psx_flow.specs.declared.node.Node.{Node}
 use Rattle.psx_flow.specs.declared.listings.TheConstants.{READ_BYTE, WRITE_BYTE, READ_WORD, WRITE_WORD}
-use Rattle.psx_flow.specs.Tree.{Tree, Stop}
-use Rattle.psx_flow.specs.Reading.{tree_of}
-use Rattle.psx_flow.specs.Lowered.{lowered}
-use Rattle.kern_layout.specs.declared.ranges.TheConstants.{GATE_A, GATE_B, GATE_C, GATE_DONE, GATE_BACK, TABLE_A, TABLE_B}
+use Rattle.kern_layout.specs.declared.ranges.TheConstants.{GATE_A, GATE_B, GATE_C, GATE_DONE, GATE_BACK}
 use Rattle.kern_entry.specs.declared.places.TheConstants as place
 use Rattle.kern_entry.specs.declared.save.TheConstants.{VECTOR_NODES, SAVE_NODES, CAUSES_NODES}
 use Rattle.kern_entry.specs.declared.calls.TheConstants.{CALL_A_NODES, CALL_B_NODES, CALL_C_NODES, EXIT_NODES, PUTCHAR_NODES}
-use Rattle.kern_entry.specs.declared.stops.TheConstants.{UNSERVED_NODES, EXCEPTION_NODES, DONE_NODES, BACK_NODES}
+use Rattle.kern_entry.specs.declared.stops.TheConstants.{UNSERVED_NODES, EXCEPTION_NODES, DONE_NODES, BACK_NODES, BAD_POINTER_NODES}
 use Rattle.kern_entry.specs.declared.sys.TheConstants.{SYSCALLS_NODES}
 use Rattle.kern_entry.specs.declared.leave.TheConstants.{LEAVE_NODES, BEHIND_NODES, RESUME_NODES, RETURN, WORK_NODES}
-use Rattle.kern_entry.specs.Words.{overlaid}
-
--- the tree that nodes spell
-abbrev pub tree : List Node → Tree
-tree nodes = unwrap_or (tree_of nodes) Stop
-
--- a listing that runs at an address of the cached segment stands at the physical one
-abbrev pub listing : (at : ℕ) → List Node → ℕ × List ℕ
-listing at nodes = (at % 2 ^ 29, lowered (tree nodes) at)
+use Rattle.kern_stay.specs.declared.room.TheConstants.{ROOM_NODES}
+use Rattle.kern_stay.specs.declared.copy.TheConstants.{COPY_NODES}
+pub use Rattle.kern_stay.specs.Shared.{tree}
+pub use Rattle.kern_stay.specs.Words.{listing}
 
 -- from the vector to the routine
 abbrev pub entry_pieces : List (ℕ × List ℕ)
@@ -47,7 +38,7 @@ leave_pieces =
 -- the routines
 abbrev pub routine_pieces : List (ℕ × List ℕ)
 routine_pieces =
-    listing place.EXIT EXIT_NODES ∷ listing place.DONE DONE_NODES ∷ listing place.BACK BACK_NODES ∷ listing place.PUTCHAR PUTCHAR_NODES ∷ listing place.SYSCALLS SYSCALLS_NODES ∷ []
+    listing place.EXIT EXIT_NODES ∷ listing place.DONE DONE_NODES ∷ listing place.BACK BACK_NODES ∷ listing place.PUTCHAR PUTCHAR_NODES ∷ listing place.SYSCALLS SYSCALLS_NODES ∷ listing place.BAD_POINTER BAD_POINTER_NODES ∷ listing place.ROOM ROOM_NODES ∷ listing place.COPY COPY_NODES ∷ []
 
 -- the four accesses to user memory
 abbrev pub tested_pieces : List (ℕ × List ℕ)
@@ -61,18 +52,9 @@ gate = word (SYSCALL 0) ∷ []
 abbrev pub vector_pieces : List (ℕ × List ℕ)
 vector_pieces = listing place.VECTOR VECTOR_NODES ∷ (GATE_A.from, gate) ∷ (GATE_B.from, gate) ∷ (GATE_C.from, gate) ∷ (GATE_DONE.from, gate) ∷ (GATE_BACK.from, gate) ∷ []
 
--- an entry of a table: the routine's address
-abbrev pub entry : (table number at : ℕ) → ℕ × List ℕ
-entry table number at = (table + 4 * number, at ∷ [])
+-- the code, and all of them, in the order of their addresses
+abbrev pub code_pieces : List (ℕ × List ℕ)
+code_pieces = entry_pieces ++ (leave_pieces ++ (routine_pieces ++ tested_pieces))
 
-abbrev pub table_pieces : List (ℕ × List ℕ)
-table_pieces =
-    entry TABLE_A.from 0x06 place.EXIT ∷ entry TABLE_A.from 0x3A place.EXIT ∷ entry TABLE_A.from 0x3C place.PUTCHAR ∷ entry TABLE_B.from 0x38 place.EXIT ∷ entry TABLE_B.from 0x3D place.PUTCHAR ∷ []
-
--- all of them, in the order of their addresses
 abbrev pub pieces : List (ℕ × List ℕ)
-pieces = vector_pieces ++ (table_pieces ++ (entry_pieces ++ (leave_pieces ++ (routine_pieces ++ tested_pieces))))
-
--- the word at an address of the block behind `place`, from the block before: other words stay
-unfoldable pub entry_word : (ℕ → ℕ) → ℕ → ℕ
-entry_word f = overlaid pieces f
+pieces = vector_pieces ++ code_pieces

@@ -50,5 +50,8 @@ pub const CODE_EXCEPTION: u16 = 2;
 /// A call that isn't served.
 pub const CODE_UNSERVED: u16 = 3;
 
+/// An address that isn't user memory.
+pub const CODE_BAD_POINTER: u16 = 4;
+
 /// A callback's return where no callback was called.
 pub const CODE_BAD_RETURN: u16 = 7;

@@ -15,4 +15,4 @@ pub mod sys;
 #[cfg(test)]
 mod tests;
 
-pub use placing::place;
+pub use placing::{place_code, place_vector};

@@ -1,12 +1,10 @@
 //! Where the listings of the entry stand, in the cached segment, in which the kernel runs.
-use kern_layout::places::{
-    LEAVE as LEAVE_PLACE, TESTED_READ_BYTE, TESTED_READ_WORD, TESTED_WRITE_BYTE, TESTED_WRITE_WORD,
-    WORK as WORK_PLACE,
-};
+use kern_layout::places::WORK as WORK_PLACE;
 use kern_layout::ranges::{ENTRY_CODE, VECTOR as VECTOR_RANGE};
+use kern_stay::places;
 
 /// The first address of the cached segment.
-pub const CACHED: u32 = 0x8000_0000;
+pub const CACHED: u32 = places::CACHED;
 
 /// The exception vector.
 pub const VECTOR: u32 = CACHED + VECTOR_RANGE.from;
@@ -33,7 +31,7 @@ pub const UNSERVED: u32 = SAVE + 0x380;
 pub const EXCEPTION: u32 = SAVE + 0x3C0;
 
 /// Where a routine arrives with its answer in r2.
-pub const LEAVE: u32 = CACHED + LEAVE_PLACE;
+pub const LEAVE: u32 = places::LEAVE;
 
 /// Where a SYSCALL arrives that goes on behind itself.
 pub const BEHIND: u32 = LEAVE + 0x40;
@@ -59,14 +57,23 @@ pub const PUTCHAR: u32 = WORK + 0xA0;
 /// A SYSCALL outside the gates.
 pub const SYSCALLS: u32 = WORK + 0x100;
 
+/// Stops for an address in r8 that isn't user memory.
+pub const BAD_POINTER: u32 = places::BAD_POINTER;
+
+/// Counts the bytes of user memory from an address on.
+pub const ROOM: u32 = places::ROOM;
+
+/// Copies words of the kernel's data.
+pub const COPY: u32 = places::COPY;
+
 /// The listing that reads a byte of user memory.
-pub const READ_BYTE: u32 = CACHED + TESTED_READ_BYTE;
+pub const READ_BYTE: u32 = places::READ_BYTE;
 
 /// The listing that writes a byte of user memory.
-pub const WRITE_BYTE: u32 = CACHED + TESTED_WRITE_BYTE;
+pub const WRITE_BYTE: u32 = places::WRITE_BYTE;
 
 /// The listing that reads a word of user memory.
-pub const READ_WORD: u32 = CACHED + TESTED_READ_WORD;
+pub const READ_WORD: u32 = places::READ_WORD;
 
 /// The listing that writes a word of user memory.
-pub const WRITE_WORD: u32 = CACHED + TESTED_WRITE_WORD;
+pub const WRITE_WORD: u32 = places::WRITE_WORD;

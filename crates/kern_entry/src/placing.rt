@@ -5,67 +5,28 @@ ghost use Rattle.psx_flow.specs.Well.{is_well};
 ghost use Rattle.psx_flow.specs.Spaced.{is_spaced};
 ghost use Rattle.psx_flow.specs.Lowered.{reaches};
 ghost use Rattle.kern_layout.specs.BlockWords.{IsBlock};
-ghost use Rattle.kern_entry.specs.Words.{over, overlaid};
-ghost use Rattle.kern_entry.specs.EntryWords.{tree, listing, gate, return_words, vector_pieces, table_pieces, entry_pieces, leave_pieces, routine_pieces, tested_pieces, entry_word};
+ghost use Rattle.kern_stay.specs.Words.{over, overlaid};
+ghost use Rattle.kern_entry.specs.EntryWords.{gate, return_words, vector_pieces, entry_pieces, leave_pieces, routine_pieces, tested_pieces, code_pieces};
 
 use crate::calls::{CALL_A_NODES, CALL_B_NODES, CALL_C_NODES, EXIT_NODES, PUTCHAR_NODES};
 use crate::leave::{BEHIND_NODES, LEAVE_NODES, RESUME_NODES, RETURN, WORK_NODES};
 use crate::places::{
-    BACK, BEHIND, CACHED, CALL_A, CALL_B, CALL_C, CAUSES, DONE, EXCEPTION, EXIT, LEAVE, PUTCHAR,
-    READ_BYTE, READ_WORD, RESUME, SAVE, SYSCALLS, UNSERVED, VECTOR, WORK, WRITE_BYTE, WRITE_WORD,
+    COPY,
+    BACK, BAD_POINTER, BEHIND, CACHED, CALL_A, CALL_B, CALL_C, CAUSES, DONE, EXCEPTION, EXIT,
+    LEAVE, PUTCHAR, READ_BYTE, READ_WORD, RESUME, ROOM, SAVE, SYSCALLS, UNSERVED, VECTOR, WORK,
+    WRITE_BYTE, WRITE_WORD,
 };
 use crate::save::{CAUSES_NODES, SAVE_NODES, VECTOR_NODES};
-use crate::stops::{BACK_NODES, DONE_NODES, EXCEPTION_NODES, UNSERVED_NODES};
+use crate::stops::{BACK_NODES, BAD_POINTER_NODES, DONE_NODES, EXCEPTION_NODES, UNSERVED_NODES};
 use crate::sys::SYSCALLS_NODES;
 use kern_layout::KernelBlock;
-use kern_layout::ranges::{GATE_A, GATE_B, GATE_BACK, GATE_C, GATE_DONE, TABLE_A, TABLE_B};
-use psx_flow::{Node, listings, lower, register, size_of};
+use kern_layout::ranges::{GATE_A, GATE_B, GATE_BACK, GATE_C, GATE_DONE};
+use kern_stay::placing::{put_listing, put_words};
+use kern_stay::copy::COPY_NODES;
+use kern_stay::room::ROOM_NODES;
+use psx_flow::{listings, register};
 use psx_ins::encode;
 use psx_ins::ins::Ins;
-
-// Sets the words from an address on.
-fn put_words(block: &mut KernelBlock, at: u32, words: &[u32])
-    requires aligned { at % 4 ≡ 0 }
-    requires within { at + 4 * length words.now ≤ 0x10000 }
-    ensures { (f : ℕ → ℕ) → IsBlock block.old f → IsBlock block.new (over at words.now f) }
-{
-    let mut place = at;
-    for word in words {
-        block.put_word(place, *word);
-        place += 4;
-    }
-}
-
-// Sets the words of a listing that runs at an address of the cached segment. `words` has as many places as it has words.
-fn put_lowered(block: &mut KernelBlock, at: u32, nodes: &[Node], words: &mut [u32])
-    requires well { IsTrue (is_well nodes.now) }
-    requires spaced { IsTrue (is_spaced nodes.now) }
-    requires few { length nodes.now < 2 ^ 31 }
-    requires aligned { at % 4 ≡ 0 }
-    requires cached { (0x80000000 ≤ at) × (at + 4 * size (tree nodes.now) ≤ 0x80010000) }
-    requires room { length words.old ≡ size (tree nodes.now) }
-    requires reach { IsTrue (reaches (tree nodes.now) at) }
-    ensures { (f : ℕ → ℕ) → IsBlock block.old f → IsBlock block.new (overlaid (listing at nodes.now ∷ []) f) }
-{
-    lower(nodes, at, words);
-    put_words(block, at - CACHED, words);
-}
-
-// The same, for a listing of at most 64 words.
-fn put_listing(block: &mut KernelBlock, at: u32, nodes: &[Node])
-    requires well { IsTrue (is_well nodes.now) }
-    requires spaced { IsTrue (is_spaced nodes.now) }
-    requires few { length nodes.now < 2 ^ 31 }
-    requires aligned { at % 4 ≡ 0 }
-    requires cached { (0x80000000 ≤ at) × (at + 4 * size (tree nodes.now) ≤ 0x80010000) }
-    requires room { size (tree nodes.now) ≤ 64 }
-    requires reach { IsTrue (reaches (tree nodes.now) at) }
-    ensures { (f : ℕ → ℕ) → IsBlock block.old f → IsBlock block.new (overlaid (listing at nodes.now ∷ []) f) }
-{
-    let mut words = [0u32; 64];
-    let size = size_of(nodes) as usize;
-    put_lowered(block, at, nodes, &mut words[..size]);
-}
 
 fn put_gate(block: &mut KernelBlock, at: u32)
     requires aligned { at % 4 ≡ 0 }
@@ -84,7 +45,8 @@ fn put_return(block: &mut KernelBlock, at: u32)
     put_words(block, at, &[jump, encode(Ins::RFE)]);
 }
 
-fn place_vector(block: &mut KernelBlock)
+/// Writes the vector and the gates. Every other word stays.
+pub fn place_vector(block: &mut KernelBlock)
     ensures { (f : ℕ → ℕ) → IsBlock block.old f → IsBlock block.new (overlaid vector_pieces f) }
 {
     put_gate(block, GATE_BACK.from);
@@ -93,16 +55,6 @@ fn place_vector(block: &mut KernelBlock)
     put_gate(block, GATE_B.from);
     put_gate(block, GATE_A.from);
     put_listing(block, VECTOR, &VECTOR_NODES);
-}
-
-fn place_tables(block: &mut KernelBlock)
-    ensures { (f : ℕ → ℕ) → IsBlock block.old f → IsBlock block.new (overlaid table_pieces f) }
-{
-    put_words(block, TABLE_B.from + 4 * 0x3D, &[PUTCHAR]);
-    put_words(block, TABLE_B.from + 4 * 0x38, &[EXIT]);
-    put_words(block, TABLE_A.from + 4 * 0x3C, &[PUTCHAR]);
-    put_words(block, TABLE_A.from + 4 * 0x3A, &[EXIT]);
-    put_words(block, TABLE_A.from + 4 * 0x06, &[EXIT]);
 }
 
 fn place_entry(block: &mut KernelBlock)
@@ -130,6 +82,9 @@ fn place_leave(block: &mut KernelBlock)
 fn place_routines(block: &mut KernelBlock)
     ensures { (f : ℕ → ℕ) → IsBlock block.old f → IsBlock block.new (overlaid routine_pieces f) }
 {
+    put_listing(block, COPY, &COPY_NODES);
+    put_listing(block, ROOM, &ROOM_NODES);
+    put_listing(block, BAD_POINTER, &BAD_POINTER_NODES);
     put_listing(block, SYSCALLS, &SYSCALLS_NODES);
     put_listing(block, PUTCHAR, &PUTCHAR_NODES);
     put_listing(block, BACK, &BACK_NODES);
@@ -146,14 +101,12 @@ fn place_tested(block: &mut KernelBlock)
     put_listing(block, READ_BYTE, &listings::READ_BYTE);
 }
 
-/// Writes the words of the entry's listings at their addresses, its entries of the tables, the vector, the gates and the two words that leave the kernel. Every other word stays.
-pub fn place(block: &mut KernelBlock)
-    ensures { (f : ℕ → ℕ) → IsBlock block.old f → IsBlock block.new (entry_word f) }
+/// Writes the words of the entry's listings at their addresses, and the two words that leave the kernel. Every other word stays.
+pub fn place_code(block: &mut KernelBlock)
+    ensures { (f : ℕ → ℕ) → IsBlock block.old f → IsBlock block.new (overlaid code_pieces f) }
 {
     place_tested(block);
     place_routines(block);
     place_leave(block);
     place_entry(block);
-    place_tables(block);
-    place_vector(block);
 }

@@ -37,3 +37,14 @@ pub const BACK_NODES: [Node; 4] = [
     op!(ADDIU r8, r0, area::CODE_BAD_RETURN),
     op!(SW r8, r26, area::PORT_HALT),
 ];
+
+/// An address in r8 that isn't user memory, and the caller's r31.
+pub const BAD_POINTER_NODES: [Node; 7] = [
+    op!(LUI r26, area::AREA),
+    op!(LW r9, r26, area::REGISTERS + 4 * 31),
+    op!(LUI r26, area::PORTS),
+    op!(SW r8, r26, area::PORT_A),
+    op!(SW r9, r26, area::PORT_B),
+    op!(ADDIU r8, r0, area::CODE_BAD_POINTER),
+    op!(SW r8, r26, area::PORT_HALT),
+];

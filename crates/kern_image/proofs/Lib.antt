@@ -14,7 +14,12 @@ pub mod Booted
 pub mod StaysSeen
 pub mod StaysRuns
 pub mod StaysMade
+pub mod StaysStage
 pub mod StaysStand
+pub mod StaysDoors
+pub mod StaysServed
+pub mod StaysLoops
 pub mod StaysEnter
 pub mod StaysHeld
 pub mod ServesEvery
+pub mod StaysAll

@@ -5,9 +5,8 @@ use Rattle.std.specs.List.{list_all}
 use Rattle.std.proofs.lemmas.Bool.{and_parts, leb-true, ltb-true, eqb-true, cases_lt}
 use Rattle.std.proofs.lemmas.List.{get_or_past}
 use Rattle.std.proofs.lemmas.List.Sums.{AllPass-from_list_all}
-use Rattle.kern_entry.specs.Words.{over, overlaid}
+use Rattle.kern_stay.specs.Words.{over, overlaid, Stand}
 use Rattle.kern_layout.specs.Stands.{is_fixed}
-use Rattle.kern_image.specs.RomLaws.{Stand}
 use Rattle.kern_image.proofs.Fixed.{fixed_between, fixed_inside}
 
 over-within : (at : ℕ) (ws : List ℕ) (f : ℕ → ℕ) (a : ℕ) → at ≤ a → a < at + 4 * length ws → over at ws f a ≡ get_or ws ((a - at) / 4) 0

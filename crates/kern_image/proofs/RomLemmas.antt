@@ -3,7 +3,7 @@ use Rattle.std.proofs.Common.{◌≡◌, ℕ, ◌+◌, ◌-◌, ◌*◌, ◌/◌
 use Rattle.std.specs.Prelude.{flat_map, is_some, nat_lt}
 use Rattle.std.proofs.lemmas.Bool.{cases_eq, cases_lt, lt-ltb}
 use Rattle.byteorder.specs.Endian.{little_bytes}
-use Rattle.kern_image.specs.Words.{HasWords, word_of}
+use Rattle.kern_image.specs.Words.{HasWords, word_of, listed}
 use Rattle.psx_base.specs.Addresses.{gate_at, place}
 use Rattle.psx_base.specs.Memory.{word, is_mapped}
 use Rattle.psx_cpu.specs.DataAccess.{read_word}
@@ -11,10 +11,9 @@ use Rattle.kern_layout.specs.BlockWords.{block_word, IsBlock}
 use Rattle.kern_layout.specs.Opening.{Opens}
 use Rattle.kern_layout.specs.Stands.{is_fixed}
 use Rattle.abs_run.specs.Serves.{GatesRead}
-use Rattle.kern_entry.specs.Words.{over}
-use Rattle.kern_entry.specs.EntryWords.{pieces, entry_word}
-use Rattle.kern_image.specs.Rom.{boot_word, kernel_word, opened_word, rom, rom_word, rom_words}
-use Rattle.kern_image.specs.RomLaws.{BootReads, BlockReads, BlockOpens, FixedReads, FixedHolds, Stand, PiecesStand}
+use Rattle.kern_stay.specs.Words.{Stand, over, overlaid}
+use Rattle.kern_image.specs.Rom.{all_pieces, boot_word, kernel_word, opened_word, rom, rom_word, rom_words}
+use Rattle.kern_image.specs.RomLaws.{BootReads, BlockReads, BlockOpens, FixedReads, FixedHolds, PiecesStand}
 use Rattle.kern_image.specs.declared.boot.TheConstants.{BOOT}
 use Rattle.kern_image.proofs.Bytes.{length-listed, get_or-listed, listed-from_all, length-bytes, word_of-bytes, bytes_small}
 use Rattle.kern_image.proofs.Fixed.{word-held, byte-from_words, fixed_word, fixed_low}
@@ -50,8 +49,8 @@ unfolding opened_word
 opened_fits a = grind arith
 
 pub kernel_fits : (a : ℕ) → kernel_word a < 2 ^ 32
-unfolding kernel_word entry_word
-kernel_fits a = overlaid_fits pieces opened_word a refl (opened_fits a)
+unfolding kernel_word listed
+kernel_fits a = overlaid_fits all_pieces opened_word a refl (opened_fits a)
 
 boot_fits : (o : ℕ) → boot_word o < 2 ^ 32
 unfolding boot_word
@@ -85,8 +84,8 @@ pub block_reads : BlockReads
 block_reads a al low = word_of-rom (0x10000 + a) (omega (arith, al)) (omega (arith, low)) ∙ rom_word-block a low
 
 pub block_opens : BlockOpens
-unfolding kernel_word entry_word opened_word
-block_opens a al low high = overlaid-behind 0 0xB000 pieces opened_word a refl low ∙ search (tests, rules)
+unfolding kernel_word listed opened_word
+block_opens a al low high = overlaid-behind 0 0xB000 all_pieces opened_word a refl low ∙ search (tests, rules)
 
 pub fixed_reads : FixedReads
 fixed_reads m a holds al fixed = word-held m rom a holds al fixed ∙ block_reads a al (fixed_low a fixed)
@@ -98,12 +97,13 @@ fixed_holds m small is a fixed =
     let there : is_fixed r ≡ true = fixed_word a r (omega arith) fixed in
     byte-from_words m rom a small rom_small (is r al there ∙ sym (block_reads r al (fixed_low r there)))
 
-block_stand : Stand kernel_word pieces
-unfolding kernel_word entry_word
-block_stand = overlaid_stand 0 0xB000 pieces opened_word kernel_word refl (λ a low. refl)
+block_stand : Stand kernel_word all_pieces
+unfolding kernel_word listed
+block_stand = overlaid_stand 0 0xB000 all_pieces opened_word kernel_word refl (λ a low. refl)
 
 pub pieces_stand : PiecesStand
-pieces_stand m holds = stand_there (word m) kernel_word pieces refl (λ a al fixed. fixed_reads m a holds al fixed) block_stand
+unfolding listed
+pieces_stand m holds = stand_there (word m) kernel_word all_pieces refl (λ a al fixed. fixed_reads m a holds al fixed) block_stand
 
 -- the word at a gate
 by_gate : (P : ℕ → Type 0) → P 0xA0 → P 0xB0 → P 0xC0 → P 0xD0 → P 0xE0 → (p : ℕ) → is_some (gate_at p) ≡ true → P p
@@ -117,7 +117,7 @@ by_gate P a b c d e p h =
     (cases_eq p 0xE0)) (cases_eq p 0xD0)) (cases_eq p 0xC0)) (cases_eq p 0xB0)) (cases_eq p 0xA0)
 
 gate_words : (kernel_word 0xA0 ≡ 12) × ((kernel_word 0xB0 ≡ 12) × ((kernel_word 0xC0 ≡ 12) × ((kernel_word 0xD0 ≡ 12) × (kernel_word 0xE0 ≡ 12))))
-unfolding kernel_word entry_word over
+unfolding kernel_word listed over
 gate_words = (refl, (refl, (refl, (refl, refl))))
 
 pub gates_read : GatesRead rom
@@ -136,15 +136,15 @@ opened-below : (a : ℕ) → a < 0xB000 → opened_word a ≡ 0
 unfolding opened_word
 opened-below a low = search (tests, rules)
 
-kernel-below : (a : ℕ) → a < 0xB000 → entry_word (λ at. 0) a ≡ kernel_word a
-unfolding kernel_word entry_word
-kernel-below a low = overlaid_same pieces (λ at. 0) opened_word a (sym (opened-below a low))
+kernel-below : (a : ℕ) → a < 0xB000 → overlaid all_pieces (λ at. 0) a ≡ kernel_word a
+unfolding kernel_word listed
+kernel-below a low = overlaid_same all_pieces (λ at. 0) opened_word a (sym (opened-below a low))
 
-pub kernel_block : (placed last : List ℕ) → IsBlock placed (entry_word (λ at. 0)) → Opens (block_word last) → ((a : ℕ) → a < 0xB000 → block_word last a ≡ block_word placed a) → HasWords last kernel_word
+pub kernel_block : (placed last : List ℕ) → IsBlock placed (overlaid all_pieces (λ at. 0)) → Opens (block_word last) → ((a : ℕ) → a < 0xB000 → block_word last a ≡ block_word placed a) → HasWords last kernel_word
 kernel_block placed last code opens below a al low =
     ⊎_elim
     (λ (h : a < 0xB000).
     let at : 4 * (a / 4) ≡ a = omega (arith, al) in
-    below a h ∙ code.at (a / 4) (omega (arith, low)) ∙ ap (entry_word (λ at. 0)) at ∙ kernel-below a h)
+    below a h ∙ code.at (a / 4) (omega (arith, low)) ∙ ap (overlaid all_pieces (λ at. 0)) at ∙ kernel-below a h)
     (λ (h : 0xB000 ≤ a). opens a al h low ∙ sym (block_opens a al h low))
     (cases_lt a 0xB000)

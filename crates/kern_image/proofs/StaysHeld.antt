@@ -1,36 +1,64 @@
--- Memory that holds the ROM has the entry's words.
-use Rattle.std.proofs.Common.{◌≡◌, ℕ, ◌<◌, Bool, true, List, [], ◌∷◌, ◌++◌, ap, ◌∙◌, ⊎_elim}
-use Rattle.std.specs.Prelude.{nat_le, nat_lt, ◌&&◌, if◌then◌else◌}
-use Rattle.std.specs.List.{list_any}
-use Rattle.std.proofs.lemmas.Bool.{false≢true, or_cases, or_left, or_right, lt-ltb}
-use Rattle.psx_base.specs.Memory.{Memory}
-use Rattle.kern_layout.specs.declared.ranges.Range.{Range}
-use Rattle.kern_layout.specs.Ranges.{thread_code_range, event_code_range, timer_code_range, memory_code_range, text_code_range, printf_code_range, heap_code_range, file_code_range}
-use Rattle.kern_layout.specs.Numbers.{threads_at}
-use Rattle.kern_layout.specs.Opening.{opening_at}
-use Rattle.kern_layout.specs.Stands.{HoldsRom, is_fixed}
-use Rattle.kern_entry.specs.EntryWords.{pieces, entry_word}
-use Rattle.kern_entry.specs.Holding.{entry_ranges, is_among, HoldsEntry}
-use Rattle.kern_image.specs.Rom.{opened_word, kernel_word, rom}
-use Rattle.kern_image.proofs.Pieces.{overlaid_same}
-use Rattle.kern_image.proofs.RomLemmas.{fixed_reads}
-use Rattle.kern_image.proofs.StaysStand.{fixed_below}
+-- Memory that holds the ROM has the words of each crate, and the tables have each call's routine.
+use Rattle.std.proofs.Common.{◌≡◌, ℕ, ◌+◌, ◌*◌, ◌<◌, List, [], ◌∷◌, ◌++◌, length, get_or, ◌∙◌, arith}
+use Rattle.psx_base.specs.declared.stop.Table.{Table}
+use Rattle.psx_base.specs.declared.stop.Table.TheVariants.{A, B, C}
+use Rattle.psx_base.specs.Memory.{Memory, word}
+use Rattle.kern_layout.specs.Stands.{HoldsRom}
+use Rattle.abs_kernel.specs.declared.calls.CallId.TheVariants.{A06, A2B, A2E, A2F, A30, A3A, A3C, A3E, B38, B3D, B3F}
+use Rattle.abs_kernel.specs.CallTable.{served_call}
+use Rattle.kern_stay.specs.Words.{Stand}
+use Rattle.kern_stay.proofs.Standing.{stand_first, stand_second}
+use Rattle.kern_entry.specs.EntryWords.{vector_pieces, code_pieces}
+use Rattle.kern_entry.specs.Holding.{HoldsEntry}
+use Rattle.kern_entry.specs.Tables.{table_word, AllThere, TableAt, TablesRead}
+use Rattle.kern_mem.specs.MemWords.{mem_pieces}
+use Rattle.kern_file.specs.FileWords.{file_pieces}
+use Rattle.kern_image.specs.Tables.{routine_of, table_words, table_pieces}
+use Rattle.kern_image.specs.Rom.{rom}
+use Rattle.kern_image.proofs.Bytes.{length-listed, get_or-listed}
+use Rattle.kern_image.proofs.RomLemmas.{pieces_stand}
 
-any_front : (f : Range → Bool) (rs more : List Range) → list_any f rs ≡ true → list_any f (rs ++ more) ≡ true
-any_front f [] more h = absurd (false≢true h)
-any_front f (r ∷ rs) more h = ⊎_elim (λ e. or_left (f r) (list_any f (rs ++ more)) e) (λ e. or_right (f r) (list_any f (rs ++ more)) (any_front f rs more e)) (or_cases (f r) (list_any f rs) h)
+stand_both : (w : ℕ → ℕ) (ps qs : List (ℕ × List ℕ)) → Stand w ps → Stand w qs → Stand w (ps ++ qs)
+stand_both w [] qs h g = g
+stand_both w (p ∷ ps) qs h g = (h.0, stand_both w ps qs h.1 g)
 
--- the code ranges that the entry hasn't
-abbrev others : List Range
-others = thread_code_range ∷ event_code_range ∷ timer_code_range ∷ memory_code_range ∷ text_code_range ∷ printf_code_range ∷ heap_code_range ∷ file_code_range ∷ []
+module _ (m : Memory) (h : HoldsRom m rom) where
+  behind_vector : Stand (word m) (table_pieces ++ (code_pieces ++ (mem_pieces ++ file_pieces)))
+  behind_vector = stand_second (word m) vector_pieces (table_pieces ++ (code_pieces ++ (mem_pieces ++ file_pieces))) (pieces_stand m h)
 
-entry_fixed : (a : ℕ) → is_among entry_ranges a ≡ true → is_fixed a ≡ true
-entry_fixed a h = any_front (λ (r : Range). nat_le r.from a && nat_lt a r.to) entry_ranges others h
+  pub holds_entry : HoldsEntry m
+  holds_entry =
+      stand_both (word m) vector_pieces code_pieces (stand_first (word m) vector_pieces (table_pieces ++ (code_pieces ++ (mem_pieces ++ file_pieces))) (pieces_stand m h))
+      (stand_first (word m) code_pieces (mem_pieces ++ file_pieces) (stand_second (word m) table_pieces (code_pieces ++ (mem_pieces ++ file_pieces)) behind_vector))
 
--- below the data ranges there is nothing but the entry's words
-entry_word_is : (a : ℕ) → a < threads_at → kernel_word a ≡ entry_word (λ b. 0) a
-unfolding kernel_word opened_word entry_word
-entry_word_is a low = overlaid_same pieces opened_word (λ b. 0) a (ap (λ b. if b then 0 else opening_at a) (lt-ltb a threads_at low))
+  behind_code : Stand (word m) (mem_pieces ++ file_pieces)
+  behind_code = stand_second (word m) code_pieces (mem_pieces ++ file_pieces) (stand_second (word m) table_pieces (code_pieces ++ (mem_pieces ++ file_pieces)) behind_vector)
 
-pub holds_entry : (m : Memory) → HoldsRom m rom → HoldsEntry m
-holds_entry m h a even in_entry = let f = entry_fixed a in_entry in fixed_reads m a h even f ∙ entry_word_is a (fixed_below a f)
+  pub holds_mem : Stand (word m) mem_pieces
+  holds_mem = stand_first (word m) mem_pieces file_pieces behind_code
+
+  pub holds_file : Stand (word m) file_pieces
+  holds_file = stand_second (word m) mem_pieces file_pieces behind_code
+
+  there : AllThere routine_of
+  there A06 e = absurd (omega (arith, e))
+  there A2B e = absurd (omega (arith, e))
+  there A2E e = absurd (omega (arith, e))
+  there A2F e = absurd (omega (arith, e))
+  there A30 e = absurd (omega (arith, e))
+  there A3A e = absurd (omega (arith, e))
+  there A3C e = absurd (omega (arith, e))
+  there A3E e = absurd (omega (arith, e))
+  there B38 e = absurd (omega (arith, e))
+  there B3D e = absurd (omega (arith, e))
+  there B3F e = absurd (omega (arith, e))
+
+  table_reads : (T : Table) (from count : ℕ) → ((k : ℕ) → k < length (table_words T count) → word m (from + 4 * k) ≡ get_or (table_words T count) k 0) → TableAt routine_of m T from count
+  table_reads T from count r n lt =
+      let len : length (table_words T count) ≡ count = length-listed (λ k. table_word routine_of (served_call T k)) count in
+      r n (omega (arith, len)) ∙ get_or-listed (λ k. table_word routine_of (served_call T k)) count n lt
+
+  pub tables_read : TablesRead routine_of m
+  tables_read =
+      let r = stand_first (word m) table_pieces (code_pieces ++ (mem_pieces ++ file_pieces)) behind_vector in
+      record { there = there; a = table_reads A 0x200 0xC0 r.0; b = table_reads B 0x874 0x5F r.1.1.0; c = table_reads C 0x674 0x20 r.1.0 }

@@ -1,5 +1,5 @@
 -- Words that make a stay by their accesses make it step by step.
-use Rattle.std.proofs.Common.{◌≡◌, ℕ, zero, suc, List, [], ◌∷◌, Bool, true, false, cond, Option, Some, None, refl, sym, ap, ◌∙◌, subst, arith, inl, inr, ⊎_elim}
+use Rattle.std.proofs.Common.{◌≡◌, ℕ, zero, suc, ◌≤◌, List, [], ◌∷◌, Bool, true, false, cond, Option, Some, None, refl, sym, ap, ◌∙◌, subst, arith, inl, inr, ⊎_elim}
 use Rattle.std.specs.Prelude.{nat_eq}
 use Rattle.std.proofs.lemmas.Bool.{false≢true, true≢false, eqb-true}
 use Rattle.psx_base.specs.declared.ports.TheConstants.{CONSOLE_DATA, HALT, HALT_A, HALT_B, HALT_C}
@@ -18,10 +18,10 @@ use Rattle.abs_run.specs.Serves.{Runs}
 use Rattle.kern_entry.specs.Within.{Aim, Onto, Steps, Within}
 use Rattle.kern_entry.specs.Made.{read_of, written_of, after, IsWritten, Follows, given, Spared, IsBack, Returned, Halted, Made}
 use Rattle.kern_image.proofs.StaysSeen.{Grown, grown, SeenOf, seen_of, same_bytes}
-use Rattle.kern_image.proofs.StaysRuns.{OnMove, HaltsAs, GoesHome, runs_step}
+use Rattle.kern_image.proofs.StaysRuns.{paid, OnMove, HaltsAs, GoesHome, runs_step, runs_least, paid_least}
 
 -- no stay's own access is to the halt port
-no_halt : (stay : Stay) (value : ℕ) → IsWritten HALT value stay → ⊥
+pub no_halt : (stay : Stay) (value : ℕ) → IsWritten HALT value stay → ⊥
 no_halt (Return state) value h = h
 no_halt (Halt stop memory) value h = false≢true h
 no_halt (Ask port on) value h = h
@@ -29,11 +29,11 @@ no_halt (Tell port told stay) value h = true≢false h.2
 no_halt (Write byte stay) value h = let e : ◌≡◌ {A = ℕ} HALT CONSOLE_DATA = h.0 in omega arith
 no_halt (Touch bytes stay) value h = no_halt stay value h
 
-split : (v : Bool) (A B C : Type 0) → (v ≡ true → A → C) → (v ≡ false → B → C) → cond v A B → C
+pub split : (v : Bool) (A B C : Type 0) → (v ≡ true → A → C) → (v ≡ false → B → C) → cond v A B → C
 split true A B C f g h = f refl h
 split false A B C f g h = g refl h
 
-both_map : (v : Bool) (A B X Y : Type 0) → (v ≡ true → A → X) → (v ≡ false → B → Y) → cond v A B → cond v X Y
+pub both_map : (v : Bool) (A B X Y : Type 0) → (v ≡ true → A → X) → (v ≡ false → B → Y) → cond v A B → cond v X Y
 both_map true A B X Y f g h = f refl h
 both_map false A B X Y f g h = g refl h
 
@@ -47,7 +47,7 @@ module _ (rom : List ℕ) (stay : Stay) (a b c : ℕ) where
   Going n k q = Follows stay q × Runs rom (after stay q) n (in_kernel k q)
 
   -- or the last access has halted, with this written
-  abbrev Stopped : (value : ℕ) → List Access → Core → Type 0
+  abbrev pub Stopped : (value : ℕ) → List Access → Core → Type 0
   Stopped value q k = HaltsAs (after stay q) value (given HALT_A a q) (given HALT_B b q) (given HALT_C c q) k
 
   abbrev pub Shows : ℕ → Aim
@@ -61,27 +61,40 @@ module _ (rom : List ℕ) (stay : Stay) (a b c : ℕ) where
   follows n k (PortRead at value) q h = h.0.0
   follows n k (PortWrite at value) q h = split (nat_eq at HALT) _ _ _ (λ e x. x.0) (λ e x. x.0.0) h
 
-  module _ (n : ℕ) (q : List Access) (lift : (k : Core) → Shows n k q → Going n k q) where
-    follows_on : (o : Option Core) (seen : List Access) → Grown q seen → Onto (Shows n) o seen → Follows stay q
-    follows_on None seen g h = absurd h
-    follows_on (Some next) seen (inl e) h = (lift next (subst (Shows n next) e h)).0
-    follows_on (Some next) seen (inr g) h = follows n next g.0 q (subst (Shows n next) g.1 h)
+  -- the steps that are left behind accesses: each that the stay makes may pay
+  pub record Pays (n : List Access → ℕ) : Type 0 where
+    pub load : (size at value : ℕ) (q : List Access) → n (Load size at value ∷ q) ≡ n q
+    pub store : (size at value : ℕ) (q : List Access) → n (Store size at value ∷ q) ≡ n q
+    pub read : (at value : ℕ) (q : List Access) → n (PortRead at value ∷ q) ≤ paid (after stay q) (n q)
+    pub write : (at value : ℕ) (q : List Access) → n (PortWrite at value ∷ q) ≤ paid (after stay q) (n q)
 
-    on_move : (k : Core) (move : Move) (seen : List Access) → Onto (Shows n) (went move) seen → SeenOf move q seen → OnMove rom (after stay q) n (in_kernel k q) move
-    on_move k (Goes next) seen h (inl e) = (lift next (subst (Shows n next) e h)).1
-    on_move k (Goes next) seen h (inr g) = ⊎_elim (λ e. let s : Shows n next (Load g.0 g.1 g.2 ∷ q) = subst (Shows n next) e h in s.1) (λ e. let s : Shows n next (Store g.0 g.1 g.2 ∷ q) = subst (Shows n next) e h in s.1) g.3
-    on_move k (Reads next at value) seen h e = let s : Shows n next (PortRead at value ∷ q) = subst (Shows n next) e h in (s.0.1, s.1)
+  abbrev pub Showing : (List Access → ℕ) → Aim
+  Showing n k q = Shows (n q) k q
+
+  module _ (n : List Access → ℕ) (pays : Pays n) (q : List Access) (lift : (k : Core) → Shows (n q) k q → Going (n q) k q) where
+    follows_on : (o : Option Core) (seen : List Access) → Grown q seen → Onto (Showing n) o seen → Follows stay q
+    follows_on None seen g h = absurd h
+    follows_on (Some next) seen (inl e) h = (lift next (subst (Showing n next) e h)).0
+    follows_on (Some next) seen (inr g) h = follows (n (g.0 ∷ q)) next g.0 q (subst (Showing n next) g.1 h)
+
+    on_move : (k : Core) (move : Move) (seen : List Access) → Onto (Showing n) (went move) seen → SeenOf move q seen → OnMove rom (after stay q) (n q) (in_kernel k q) move
+    on_move k (Goes next) seen h (inl e) = (lift next (subst (Showing n next) e h)).1
+    on_move k (Goes next) seen h (inr g) =
+        ⊎_elim
+        (λ e. let s : Shows (n (Load g.0 g.1 g.2 ∷ q)) next (Load g.0 g.1 g.2 ∷ q) = subst (Showing n next) e h in subst (λ j. Runs rom (after stay q) j (in_kernel next q)) (pays.load g.0 g.1 g.2 q) s.1)
+        (λ e. let s : Shows (n (Store g.0 g.1 g.2 ∷ q)) next (Store g.0 g.1 g.2 ∷ q) = subst (Showing n next) e h in subst (λ j. Runs rom (after stay q) j (in_kernel next q)) (pays.store g.0 g.1 g.2 q) s.1) g.3
+    on_move k (Reads next at value) seen h e = let s : Shows (n (PortRead at value ∷ q)) next (PortRead at value ∷ q) = subst (Showing n next) e h in (s.0.1, runs_least rom (read_of value (after stay q)) _ _ (in_kernel next (PortRead at value ∷ q)) (pays.read at value q) s.1)
     on_move k (Writes next at value) seen h e =
-        let s : Shows n next (PortWrite at value ∷ q) = subst (Shows n next) e h in
-        both_map (nat_eq at HALT) _ _ _ _ (λ e x. x.1) (λ e x. (x.0.1, x.1)) s
+        let s : Shows (n (PortWrite at value ∷ q)) next (PortWrite at value ∷ q) = subst (Showing n next) e h in
+        both_map (nat_eq at HALT) _ _ _ _ (λ e x. x.1) (λ e x. (x.0.1, runs_least rom (written_of (after stay q)) _ _ (in_kernel next (PortWrite at value ∷ q)) (pays.write at value q) x.1)) s
     on_move k (Enters next code) seen h g = absurd h
     on_move k (Leaves next) seen h g = absurd h
     on_move k (Stops stop) seen h g = absurd h
 
-    going_back : (k : Core) → Steps (Shows n) k q → Going (suc n) k q
+    going_back : (k : Core) → Steps (Showing n) k q → Going (suc (n q)) k q
     going_back k f = (
       follows_on (went (step k idle)) (seen_at k idle q) (grown k idle q) (f idle (omega arith)),
-      runs_step rom (after stay q) n (in_kernel k q) (λ bus lt. on_move k (step k bus) (seen_at k bus q) (f bus lt) (seen_of k bus q)),
+      runs_step rom (after stay q) (n q) (in_kernel k q) (λ bus lt. on_move k (step k bus) (seen_at k bus q) (f bus lt) (seen_of k bus q)),
     )
 
   -- a step that makes no access leaves the memory of a stop as it is
@@ -93,33 +106,40 @@ module _ (rom : List ℕ) (stay : Stay) (a b c : ℕ) where
   halts_at (Tell port told rest) value x y z k next e h = absurd h
   halts_at (Write byte rest) value x y z k next e h = absurd h
 
-  halted_on : (n : ℕ) (at value : ℕ) (q : List Access) → at ≡ HALT → (k : Core) (o : Option Core) (seen : List Access) → Grown (PortWrite at value ∷ q) seen → ((next : Core) → o ≡ Some next → seen ≡ PortWrite at value ∷ q → next.bytes ≡ k.bytes)
-      → Onto (Shows n) o seen → Follows stay q × Stopped value q k
+  halted_on : (n : List Access → ℕ) (at value : ℕ) (q : List Access) → at ≡ HALT → (k : Core) (o : Option Core) (seen : List Access) → Grown (PortWrite at value ∷ q) seen → ((next : Core) → o ≡ Some next → seen ≡ PortWrite at value ∷ q → next.bytes ≡ k.bytes)
+      → Onto (Showing n) o seen → Follows stay q × Stopped value q k
   halted_on n at value q e k None seen g same h = absurd h
   halted_on n at value q e k (Some next) seen (inl f) same h =
       split (nat_eq at HALT) _ _ _ (λ y x. (x.0, halts_at (after stay q) value _ _ _ k next (same next refl f) x.1))
       (λ y x. absurd (no_halt (after stay q) value (subst (λ p. IsWritten p value (after stay q)) e x.0.1)))
-      (subst (Shows n next) f h)
+      (subst (Showing n next) f h)
   halted_on n at value q e k (Some next) seen (inr g) same h =
-      absurd (no_halt (after stay q) value (subst (λ p. IsWritten p value (after stay q)) e (follows n next g.0 (PortWrite at value ∷ q) (subst (Shows n next) g.1 h)).1))
+      absurd (no_halt (after stay q) value (subst (λ p. IsWritten p value (after stay q)) e (follows (n (g.0 ∷ (PortWrite at value ∷ q))) next g.0 (PortWrite at value ∷ q) (subst (Showing n next) g.1 h)).1))
 
-  shows_back : (n : ℕ) (k : Core) (q : List Access) → Steps (Shows n) k q → Shows (suc n) k q
-  shows_back n k [] f = going_back n [] (λ k h. h) k f
-  shows_back n k (Load size at value ∷ q) f = going_back n (Load size at value ∷ q) (λ k h. h) k f
-  shows_back n k (Store size at value ∷ q) f = going_back n (Store size at value ∷ q) (λ k h. h) k f
-  shows_back n k (PortRead at value ∷ q) f = going_back n (PortRead at value ∷ q) (λ k h. h) k f
-  shows_back n k (PortWrite at value ∷ q) f = go (nat_eq at HALT) refl
+  pub shows_paid : (n : List Access → ℕ) → Pays n → (k : Core) (q : List Access) → Steps (Showing n) k q → Shows (suc (n q)) k q
+  shows_paid n p k [] f = going_back n p [] (λ k h. h) k f
+  shows_paid n p k (Load size at value ∷ q) f = going_back n p (Load size at value ∷ q) (λ k h. h) k f
+  shows_paid n p k (Store size at value ∷ q) f = going_back n p (Store size at value ∷ q) (λ k h. h) k f
+  shows_paid n p k (PortRead at value ∷ q) f = going_back n p (PortRead at value ∷ q) (λ k h. h) k f
+  shows_paid n p k (PortWrite at value ∷ q) f = go (nat_eq at HALT) refl
     where
       w : List Access
       w = PortWrite at value ∷ q
 
-      go : (v : Bool) → nat_eq at HALT ≡ v → Shows (suc n) k (PortWrite at value ∷ q)
+      go : (v : Bool) → nat_eq at HALT ≡ v → Shows (suc (n (PortWrite at value ∷ q))) k (PortWrite at value ∷ q)
       go true e =
-          subst (λ v. cond v (Follows stay q × Stopped value q k) (Going (suc n) k (PortWrite at value ∷ q))) (sym e)
+          subst (λ v. cond v (Follows stay q × Stopped value q k) (Going (suc (n (PortWrite at value ∷ q))) k (PortWrite at value ∷ q))) (sym e)
           (halted_on n at value q (eqb-true at HALT e) k (went (step k idle)) (seen_at k idle (PortWrite at value ∷ q)) (grown k idle (PortWrite at value ∷ q)) (λ next h s. same_bytes k idle (PortWrite at value ∷ q) next h s) (f idle (omega arith)))
       go false e =
-          subst (λ v. cond v (Follows stay q × Stopped value q k) (Going (suc n) k (PortWrite at value ∷ q))) (sym e)
-          (going_back n (PortWrite at value ∷ q) (λ j h. subst (λ v. cond v (Follows stay q × Stopped value q j) (Going n j (PortWrite at value ∷ q))) e h) k f)
+          subst (λ v. cond v (Follows stay q × Stopped value q k) (Going (suc (n (PortWrite at value ∷ q))) k (PortWrite at value ∷ q))) (sym e)
+          (going_back n p (PortWrite at value ∷ q) (λ j h. subst (λ v. cond v (Follows stay q × Stopped value q j) (Going (n (PortWrite at value ∷ q)) j (PortWrite at value ∷ q))) e h) k f)
+
+  -- where no access pays
+  flat : (n : ℕ) → Pays (λ q. n)
+  flat n = record { load = λ size at value q. refl; store = λ size at value q. refl; read = λ at value q. paid_least (after stay q) n; write = λ at value q. paid_least (after stay q) n }
+
+  pub shows_back : (n : ℕ) (k : Core) (q : List Access) → Steps (Shows n) k q → Shows (suc n) k q
+  shows_back n k q f = shows_paid (λ q. n) (flat n) k q f
 
   -- ---- the ends
 
@@ -170,7 +190,7 @@ module _ (rom : List ℕ) (stay : Stay) (a b c : ℕ) where
         let r = returned (after stay q) k (after_ends q) h.1 in
         (h.0, runs_step rom (after stay q) n (in_kernel k q) (λ bus lt. subst (OnMove rom (after stay q) n (in_kernel k q)) (sym (r.2 bus)) r.1))
 
-    made_shows : (n : ℕ) (k : Core) (q : List Access) → Made first stay k q → Shows (suc n) k q
+    pub made_shows : (n : ℕ) (k : Core) (q : List Access) → Made first stay k q → Shows (suc n) k q
     made_shows n k [] h = going n k [] (tt, h)
     made_shows n k (Load size at value ∷ q) h = going n k (Load size at value ∷ q) h
     made_shows n k (Store size at value ∷ q) h = going n k (Store size at value ∷ q) h

@@ -1,6 +1,7 @@
 -- The words make a stay with a step more where they make it behind the next step.
-use Rattle.std.proofs.Common.{◌≡◌, ℕ, zero, suc, ◌+◌, ◌*◌, ◌%◌, ◌^◌, ◌<◌, List, Bool, true, false, cond, Some, refl, sym, ap, ◌∙◌, subst, arith, inl, inr, ◌⊎◌, ⊎_elim}
+use Rattle.std.proofs.Common.{◌≡◌, ℕ, zero, suc, ◌+◌, ◌-◌, ◌*◌, ◌≤◌, ◌%◌, ◌^◌, ◌<◌, List, Bool, true, false, cond, Some, refl, sym, ap, ◌∙◌, subst, arith, inl, inr, ◌⊎◌, ⊎_elim}
 use Rattle.std.specs.Prelude.{nat_eq, ◌||◌, if◌then◌else◌}
+use Rattle.std.proofs.Math.Nat.{mul-add}
 use Rattle.std.proofs.lemmas.Bool.{true≢false, eqb-true, or_cases}
 use Rattle.psx_base.specs.declared.ports.TheConstants.{CONSOLE_DATA, HALT, HALT_A, HALT_B, HALT_C}
 use Rattle.psx_base.specs.declared.stop.Stop.{Stop}
@@ -10,6 +11,7 @@ use Rattle.psx_cpu.specs.Step.{Move, Goes, Reads, Writes, Enters, Leaves, Stops,
 use Rattle.psx_ports.specs.HaltCodes.{halt_stop}
 use Rattle.kern_layout.specs.Stands.{SameUser, Stands}
 use Rattle.abs_kernel.specs.Stay.{Stay, Return, Halt, Ask, Tell, Write, Touch}
+use Rattle.kern_stay.specs.Loops.{units}
 use Rattle.kern_entry.specs.Made.{read_of, written_of, is_own_port, is_halt_word, IsRead, IsWritten}
 use Rattle.abs_run.specs.InKernel.{InKernel, side_of, Sign, Nothing, PortRead, PortWritten, Printed, LeftKernel, EndedRun, Strayed, halt_sign, write_sign, sign_of}
 use Rattle.abs_run.specs.Serves.{Onward, Comes, AsksFor, Tells, Prints, Returns, Ends, Runs}
@@ -70,6 +72,9 @@ module _ (rom : List ℕ) (m : ℕ) where
       let e : n + 128 * bytes + m ≡ n + m + 128 * bytes = omega arith in
       subst (λ j. Runs rom next j k) e (runs_more next (n + 128 * bytes) k h)
 
+pub runs_least : (rom : List ℕ) (stay : Stay) (n m : ℕ) (k : InKernel) → n ≤ m → Runs rom stay n k → Runs rom stay m k
+runs_least rom stay n m k le h = let e : n + (m - n) ≡ m = omega arith in subst (λ j. Runs rom stay j k) e (runs_more rom (m - n) stay n k h)
+
 -- ---- a step
 
 -- the words of the halt ports behind a write
@@ -88,21 +93,37 @@ GoesHome rom (Return state) next = Stands (side_of next) next.bytes state rom
 GoesHome rom (Touch bytes stay) next = GoesHome rom stay next
 GoesHome rom _ next = ⊥
 
+-- the steps that are left behind the next access to a port
+abbrev pub paid : Stay → ℕ → ℕ
+paid (Return state) n = n
+paid (Halt stop memory) n = n
+paid (Ask port next) n = n + 128
+paid (Tell port value next) n = n + 128
+paid (Write byte next) n = n + 128
+paid (Touch bytes next) n = paid next (n + 128 * bytes)
+
+pub paid_is : (stay : Stay) (n : ℕ) → paid stay n ≡ n + 128 * units stay
+paid_is (Return state) n = omega arith
+paid_is (Halt stop memory) n = omega arith
+paid_is (Ask port next) n = refl
+paid_is (Tell port value next) n = refl
+paid_is (Write byte next) n = refl
+paid_is (Touch bytes next) n = let e = paid_is next (n + 128 * bytes) in let d : 128 * (bytes + units next) ≡ 128 * bytes + 128 * units next = mul-add 128 bytes (units next) in omega (arith, e, d)
+
+pub paid_least : (stay : Stay) (n : ℕ) → n ≤ paid stay n
+paid_least stay n = let e = paid_is stay n in omega (arith, e)
+
 -- what is asked of a step, so that the stay is made with a step more
 abbrev pub OnMove : List ℕ → Stay → ℕ → InKernel → Move → Type 0
 OnMove rom stay n k (Goes next) = Runs rom stay n (record k { core = next })
-OnMove rom stay n k (Reads next at value) = IsRead at stay × Runs rom (read_of value stay) n (record k { core = next })
-OnMove rom stay n k (Writes next at value) = cond (nat_eq at HALT) (HaltsAs stay value k.a k.b k.c next) (IsWritten at value stay × Runs rom (written_of stay) n (put at value (record k { core = next })))
+OnMove rom stay n k (Reads next at value) = IsRead at stay × Runs rom (read_of value stay) (paid stay n) (record k { core = next })
+OnMove rom stay n k (Writes next at value) = cond (nat_eq at HALT) (HaltsAs stay value k.a k.b k.c next) (IsWritten at value stay × Runs rom (written_of stay) (paid stay n) (put at value (record k { core = next })))
 OnMove rom stay n k (Leaves next) = GoesHome rom stay next
 OnMove rom stay n k _ = ⊥
 
 split : {A B C : Type 0} (v : Bool) → (v ≡ true → A → C) → (v ≡ false → B → C) → cond v A B → C
 split true f g h = f refl h
 split false f g h = g refl h
-
-right : (v : Bool) (A B C : Type 0) → (B → C) → cond v A B → cond v A C
-right true A B C f x = x
-right false A B C f x = f x
 
 halt_word : (at : ℕ) → is_halt_word at ≡ true → (at ≡ HALT_A) ⊎ ((at ≡ HALT_B) ⊎ (at ≡ HALT_C))
 halt_word at h =
@@ -169,7 +190,7 @@ module _ (rom : List ℕ) where
   ask_step : (port : ℕ) (on : ℕ → Stay) (n : ℕ) (k : InKernel) (move : Move) → OnMove rom (Ask port on) n k move
       → Onward (Comes (AsksFor port (λ value left. Runs rom (on value) (left + 128))) n) (λ (x : Sign). AsksFor port (λ value left. Runs rom (on value) (left + 128)) x n) (sign_of k move)
   ask_step port on n k (Goes next) h = h
-  ask_step port on n k (Reads next at value) h = (h.0, runs_more rom 128 (on value) n _ h.1)
+  ask_step port on n k (Reads next at value) h = h
   ask_step port on n k (Writes next at value) h = absurd (split (nat_eq at HALT) (λ e x. x) (λ e x. x.0) h)
   ask_step port on n k (Enters next code) h = absurd h
   ask_step port on n k (Leaves next) h = absurd h
@@ -183,7 +204,7 @@ module _ (rom : List ℕ) where
       let G : Sign → Type 0 = λ sign. Onward (Comes (Tells port told (λ left. Runs rom stay (left + 128))) n) (λ (x : Sign). Tells port told (λ left. Runs rom stay (left + 128)) x n) sign in
       let j : InKernel = record k { core = next } in
       split (nat_eq at HALT) (λ e x. absurd x)
-      (λ e x. subst G (sym (told_sign j at value x.0.2)) (x.0.0, x.0.1, runs_more rom 128 stay n j (subst (Runs rom stay n) (put_other j at value x.0.2) x.1))) h
+      (λ e x. subst G (sym (told_sign j at value x.0.2)) (x.0.0, x.0.1, subst (Runs rom stay (n + 128)) (put_other j at value x.0.2) x.1)) h
   tell_step port told stay n k (Enters next code) h = absurd h
   tell_step port told stay n k (Leaves next) h = absurd h
   tell_step port told stay n k (Stops stop) h = absurd h
@@ -197,7 +218,7 @@ module _ (rom : List ℕ) where
       let j : InKernel = record k { core = next } in
       split (nat_eq at HALT) (λ e x. absurd x)
       (λ e x.
-      let printed : G (write_sign j CONSOLE_DATA value) = (x.0.1, runs_more rom 128 stay n j (subst (λ p. Runs rom stay n (put p value j)) x.0.0 x.1)) in
+      let printed : G (write_sign j CONSOLE_DATA value) = (x.0.1, subst (λ p. Runs rom stay (n + 128) (put p value j)) x.0.0 x.1) in
       subst (λ p. G (write_sign j p value)) (sym x.0.0) printed) h
   write_step byte stay n k (Enters next code) h = absurd h
   write_step byte stay n k (Leaves next) h = absurd h
@@ -206,8 +227,8 @@ module _ (rom : List ℕ) where
   -- a stay begun with a touch
   touch_move : (bytes : ℕ) (stay : Stay) (n : ℕ) (k : InKernel) (move : Move) → OnMove rom (Touch bytes stay) n k move → OnMove rom stay (n + 128 * bytes) k move
   touch_move bytes stay n k (Goes next) h = h
-  touch_move bytes stay n k (Reads next at value) h = (h.0, runs_more rom (128 * bytes) (read_of value stay) n _ h.1)
-  touch_move bytes stay n k (Writes next at value) h = right (nat_eq at HALT) _ _ _ (λ x. (x.0, runs_more rom (128 * bytes) (written_of stay) n _ x.1)) h
+  touch_move bytes stay n k (Reads next at value) h = h
+  touch_move bytes stay n k (Writes next at value) h = h
   touch_move bytes stay n k (Enters next code) h = absurd h
   touch_move bytes stay n k (Leaves next) h = h
   touch_move bytes stay n k (Stops stop) h = absurd h

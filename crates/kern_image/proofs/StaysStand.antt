@@ -1,5 +1,5 @@
 -- Behind a return the processor and its memory stand for the state, where memory has changed in the kernel's stack alone.
-use Rattle.std.proofs.Common.{◌≡◌, ℕ, suc, ◌+◌, ◌-◌, ◌*◌, ◌%◌, ◌^◌, ◌<◌, ◌≤◌, Bool, true, false, List, [], ◌∷◌, refl, sym, ◌∙◌, subst, arith, inl, inr, ⊎_elim}
+use Rattle.std.proofs.Common.{◌≡◌, ℕ, ◌+◌, ◌*◌, ◌%◌, ◌^◌, ◌<◌, ◌≤◌, Bool, true, false, List, [], ◌∷◌, refl, sym, ◌∙◌, subst, arith, inl, inr, ⊎_elim}
 use Rattle.std.specs.Prelude.{◌||◌, ◌&&◌, nat_le, nat_lt, if◌then◌else◌}
 use Rattle.std.specs.List.{list_any, list_all}
 use Rattle.std.proofs.lemmas.Bool.{false≢true, and_parts, or_cases, leb-true, ltb-true}
@@ -15,15 +15,8 @@ use Rattle.kern_layout.specs.Numbers.{threads_at}
 use Rattle.kern_layout.specs.Valid.{Valid}
 use Rattle.abs_run.specs.InKernel.{side_of}
 use Rattle.kern_layout.proofs.Written.{reads_free}
-use Rattle.abs_kernel.specs.Cause.{entry_of}
-use Rattle.abs_kernel.specs.KernelStep.{stay_of}
-use Rattle.abs_kernel.proofs.Ends.{stay_ends}
-use Rattle.abs_run.specs.Entered.{is_heap_number, bound_by, bound_of}
-use Rattle.abs_run.specs.Serves.{Runs}
-use Rattle.kern_entry.specs.Within.{Within}
-use Rattle.kern_entry.specs.Made.{Spared, IsBack, Made}
-use Rattle.kern_image.proofs.StaysRuns.{runs_more}
-use Rattle.kern_image.proofs.StaysMade.{within_shows}
+use Rattle.abs_run.specs.Entered.{is_heap_number, bound_by}
+use Rattle.kern_entry.specs.Made.{Spared, IsBack}
 
 below_all : (rs : List Range) (high a : ℕ) → list_all (λ (r : Range). nat_le r.to high) rs ≡ true → list_any (λ (r : Range). nat_le r.from a && nat_lt a r.to) rs ≡ true → a < high
 below_all [] high a all h = absurd (false≢true h)
@@ -40,7 +33,7 @@ fixed_below a h = below_all fixed_ranges threads_at a refl h
 user_above : (a : ℕ) → (user_main a || scratchpad a) ≡ true → stack_range.to ≤ a
 user_above a h = grind arith
 
-spared_word : (m n : Memory) → Spared m n → (a : ℕ) → a % 4 ≡ 0 → a < stack_range.from → word n a ≡ word m a
+pub spared_word : (m n : Memory) → Spared m n → (a : ℕ) → a % 4 ≡ 0 → a < stack_range.from → word n a ≡ word m a
 unfolding word
 spared_word m n h a even low =
     let e0 = h a (inl low) in let e1 = h (a + 1) (inl (omega arith)) in let e2 = h (a + 2) (inl (omega arith)) in let e3 = h (a + 3) (inl (omega arith)) in
@@ -73,7 +66,7 @@ module _ (first : Memory) (side : Side) (s : KernelState) (rom : List ℕ) (vali
   back state next e h = subst (λ x. Stands (side_of next) next.bytes x rom) (sym e) (back_in next state.running (record { context = h.context; sr = h.sr; latch = h.latch; spared = h.spared }))
 
 -- each bound is 20,480 at least
-bound_by_least : (e : Entrance) (number : ℕ) → 20480 ≤ bound_by e number
+pub bound_by_least : (e : Entrance) (number : ℕ) → 20480 ≤ bound_by e number
 bound_by_least ByA number = go (is_heap_number number)
   where
     go : (b : Bool) → 20480 ≤ (if b then 36864 else 20480)
@@ -86,16 +79,3 @@ bound_by_least ByInterrupt number = omega arith
 bound_by_least ByDone number = omega arith
 bound_by_least ByBack number = omega arith
 bound_by_least ByTrap number = omega arith
-
--- From a processor on the kernel's side, where memory stands for a state, words that make a stay within so many steps make it as a ROM is asked to.
-pub stay_runs : (rom : List ℕ) (s : KernelState) (code : ℕ) (side : Side) (k : Core) (n a b c : ℕ) → Valid s → Stands side k.bytes s rom → n < 20480 → Within (Made k.bytes (stay_of s code)) n k [] → Runs rom (stay_of s code) (bound_of s code) (record { core = k; a = a; b = b; c = c })
-stay_runs rom s code side k n a b c valid stands few h =
-    let e = entry_of s.running.context code in
-    let least = bound_by_least e.gate e.number in
-    let shown = within_shows rom (stay_of s code) a b c k.bytes (λ t. t ≡ record s { running = t.running }) (λ stop memory. memory ≡ s.memory)
-    (stay_ends (λ t. t ≡ record s { running = t.running }) (λ stop memory. memory ≡ s.memory) s code (λ stop. refl) (λ d on r. refl))
-    (λ state next z h. back k.bytes side s rom valid stands state next z h)
-    (λ stop memory j z h. spared_user k.bytes j.bytes memory (subst (SameUser k.bytes) (sym z) stands.user) h)
-    n k [] h in
-    let more : suc n + (bound_of s code - suc n) ≡ bound_of s code = omega (arith, few, least) in
-    subst (λ j. Runs rom (stay_of s code) j (record { core = k; a = a; b = b; c = c })) more (runs_more rom (bound_of s code - suc n) (stay_of s code) (suc n) _ shown.1)

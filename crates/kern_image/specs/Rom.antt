@@ -1,9 +1,13 @@
 -- The ROM. Its words are little-endian (R3000A manual, data formats).
-use Rattle.std.specs.Prelude.{ℕ, ◌-◌, ◌*◌, ◌/◌, List, flat_map, slice_index, if◌then◌else◌, nat_lt}
+use Rattle.std.specs.Prelude.{ℕ, ◌-◌, ◌*◌, ◌/◌, List, ◌++◌, flat_map, slice_index, if◌then◌else◌, nat_lt}
 use Rattle.byteorder.specs.Endian.{little_bytes}
 use Rattle.kern_layout.specs.Numbers.{threads_at}
 use Rattle.kern_layout.specs.Opening.{opening_at}
-use Rattle.kern_entry.specs.EntryWords.{entry_word}
+use Rattle.kern_stay.specs.Words.{overlaid}
+use Rattle.kern_entry.specs.EntryWords.{vector_pieces, code_pieces}
+use Rattle.kern_mem.specs.MemWords.{mem_pieces}
+use Rattle.kern_file.specs.FileWords.{file_pieces}
+use Rattle.kern_image.specs.Tables.{table_pieces}
 use Rattle.kern_image.specs.Words.{listed}
 use Rattle.kern_image.specs.declared.boot.TheConstants.{BOOT}
 
@@ -11,9 +15,13 @@ use Rattle.kern_image.specs.declared.boot.TheConstants.{BOOT}
 unfoldable pub opened_word : ℕ → ℕ
 opened_word a = if nat_lt a threads_at then 0 else opening_at a
 
+-- all words of the kernel's code, in the order of their addresses
+abbrev pub all_pieces : List (ℕ × List ℕ)
+all_pieces = vector_pieces ++ (table_pieces ++ (code_pieces ++ (mem_pieces ++ file_pieces)))
+
 -- the word at an address of the kernel's 64 KB: the vector, the gates, the tables and the code, else an opening value
 unfoldable pub kernel_word : ℕ → ℕ
-kernel_word = entry_word opened_word
+kernel_word a = overlaid all_pieces opened_word a
 
 -- the word of the boot code at an offset, and 0 behind it
 unfoldable pub boot_word : ℕ → ℕ

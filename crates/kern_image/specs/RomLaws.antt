@@ -1,11 +1,11 @@
 -- What the ROM's bytes are, for the proofs of what its words do.
-use Rattle.std.specs.Prelude.{◌≡◌, ℕ, ◌+◌, ◌*◌, ◌%◌, ◌^◌, ◌<◌, true, List, [], ◌∷◌, length, slice_index, All}
+use Rattle.std.specs.Prelude.{◌≡◌, ℕ, ◌+◌, ◌*◌, ◌%◌, ◌^◌, ◌<◌, true, length, slice_index, All}
 use Rattle.psx_base.specs.Memory.{Memory, byte, word}
 use Rattle.kern_layout.specs.Opening.{Opens}
 use Rattle.kern_layout.specs.Stands.{HoldsRom, is_fixed}
-use Rattle.kern_entry.specs.EntryWords.{pieces}
+use Rattle.kern_stay.specs.Words.{Stand}
 use Rattle.kern_image.specs.Words.{word_of}
-use Rattle.kern_image.specs.Rom.{kernel_word, rom, rom_word}
+use Rattle.kern_image.specs.Rom.{all_pieces, kernel_word, rom, rom_word}
 use Rattle.kern_image.specs.declared.boot.TheConstants.{BOOT}
 
 abbrev pub BytesFit : Type 0
@@ -35,11 +35,6 @@ FixedReads = (m : Memory) (a : ℕ) → HoldsRom m rom → a % 4 ≡ 0 → is_fi
 abbrev pub FixedHolds : Type 0
 FixedHolds = (m : Memory) → ((a : ℕ) → byte m a < 2 ^ 8) → ((a : ℕ) → a % 4 ≡ 0 → is_fixed a ≡ true → word m a ≡ kernel_word a) → HoldsRom m rom
 
--- each piece's words stand at its address
-abbrev pub Stand : (ℕ → ℕ) → List (ℕ × List ℕ) → Type 0
-Stand w [] = Unit {0}
-Stand w (p ∷ ps) = ((k : ℕ) → k < length p.1 → w (p.0 + 4 * k) ≡ slice_index p.1 k) × Stand w ps
-
--- in memory that holds the ROM the words of the entry stand where they are placed
+-- in memory that holds the ROM the words of the code stand where they are placed
 abbrev pub PiecesStand : Type 0
-PiecesStand = (m : Memory) → HoldsRom m rom → Stand (word m) pieces
+PiecesStand = (m : Memory) → HoldsRom m rom → Stand (word m) all_pieces

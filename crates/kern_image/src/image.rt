@@ -5,8 +5,9 @@ ghost use Rattle.kern_image.specs.Words.{HasWords};
 ghost use Rattle.kern_image.specs.Rom.{kernel_word, rom, rom_word, rom_words};
 
 use crate::boot::BOOT;
+use crate::tables::place_tables;
 use byteorder::{ByteOrder, LittleEndian};
-use kern_entry::place;
+use kern_entry::{place_code, place_vector};
 use kern_layout::{KernelBlock, put_opening};
 use psx_base::Memory;
 use std::alloc::{AllocError, Global};
@@ -50,7 +51,11 @@ fn kernel(alloc: Global) -> Result<KernelBlock, Memory>
     ensures { IfOk result (λ b. HasWords b kernel_word) }
 {
     let mut block = KernelBlock::new(alloc)?;
-    place(&mut block);
+    kern_file::place(&mut block);
+    kern_mem::place(&mut block);
+    place_code(&mut block);
+    place_tables(&mut block);
+    place_vector(&mut block);
     put_opening(&mut block);
     Ok(block)
 }

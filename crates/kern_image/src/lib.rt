@@ -8,6 +8,7 @@ pub mod image;
 pub mod laws;
 pub mod serving;
 pub mod stays;
+mod tables;
 #[cfg(test)]
 mod tests;
 

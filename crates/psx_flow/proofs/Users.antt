@@ -16,77 +16,77 @@ sum_of a = wrap (wrap (wrap (wrap (truth (nat_lt (wrap (a + 2 ^ 32 - 65536)) 203
 sum_0 : (a : ℕ) → a < 65536 → sum_of a ≡ 0
 sum_0 a h = grind arith
 
-user_0 : (a : ℕ) → a < 65536 → user a ≡ false
+pub user_0 : (a : ℕ) → a < 65536 → user a ≡ false
 unfolding user
 user_0 a h = grind arith
 
 sum_1 : (a : ℕ) → 65536 ≤ a → a < 2097152 → sum_of a ≡ 1
 sum_1 a h k = grind arith
 
-user_1 : (a : ℕ) → 65536 ≤ a → a < 2097152 → user a ≡ true
+pub user_1 : (a : ℕ) → 65536 ≤ a → a < 2097152 → user a ≡ true
 unfolding user
 user_1 a h k = grind arith
 
 sum_2 : (a : ℕ) → 2097152 ≤ a → a < 528482304 → sum_of a ≡ 0
 sum_2 a h k = grind arith
 
-user_2 : (a : ℕ) → 2097152 ≤ a → a < 528482304 → user a ≡ false
+pub user_2 : (a : ℕ) → 2097152 ≤ a → a < 528482304 → user a ≡ false
 unfolding user
 user_2 a h k = grind arith
 
 sum_3 : (a : ℕ) → 528482304 ≤ a → a < 528483328 → sum_of a ≡ 1
 sum_3 a h k = grind arith
 
-user_3 : (a : ℕ) → 528482304 ≤ a → a < 528483328 → user a ≡ true
+pub user_3 : (a : ℕ) → 528482304 ≤ a → a < 528483328 → user a ≡ true
 unfolding user
 user_3 a h k = grind arith
 
 sum_4 : (a : ℕ) → 528483328 ≤ a → a < 2147549184 → sum_of a ≡ 0
 sum_4 a h k = grind arith
 
-user_4 : (a : ℕ) → 528483328 ≤ a → a < 2147549184 → user a ≡ false
+pub user_4 : (a : ℕ) → 528483328 ≤ a → a < 2147549184 → user a ≡ false
 unfolding user
 user_4 a h k = grind arith
 
 sum_5 : (a : ℕ) → 2147549184 ≤ a → a < 2149580800 → sum_of a ≡ 1
 sum_5 a h k = grind arith
 
-user_5 : (a : ℕ) → 2147549184 ≤ a → a < 2149580800 → user a ≡ true
+pub user_5 : (a : ℕ) → 2147549184 ≤ a → a < 2149580800 → user a ≡ true
 unfolding user
 user_5 a h k = grind arith
 
 sum_6 : (a : ℕ) → 2149580800 ≤ a → a < 2675965952 → sum_of a ≡ 0
 sum_6 a h k = grind arith
 
-user_6 : (a : ℕ) → 2149580800 ≤ a → a < 2675965952 → user a ≡ false
+pub user_6 : (a : ℕ) → 2149580800 ≤ a → a < 2675965952 → user a ≡ false
 unfolding user
 user_6 a h k = grind arith
 
 sum_7 : (a : ℕ) → 2675965952 ≤ a → a < 2675966976 → sum_of a ≡ 1
 sum_7 a h k = grind arith
 
-user_7 : (a : ℕ) → 2675965952 ≤ a → a < 2675966976 → user a ≡ true
+pub user_7 : (a : ℕ) → 2675965952 ≤ a → a < 2675966976 → user a ≡ true
 unfolding user
 user_7 a h k = grind arith
 
 sum_8 : (a : ℕ) → 2675966976 ≤ a → a < 2684420096 → sum_of a ≡ 0
 sum_8 a h k = grind arith
 
-user_8 : (a : ℕ) → 2675966976 ≤ a → a < 2684420096 → user a ≡ false
+pub user_8 : (a : ℕ) → 2675966976 ≤ a → a < 2684420096 → user a ≡ false
 unfolding user
 user_8 a h k = grind arith
 
 sum_9 : (a : ℕ) → 2684420096 ≤ a → a < 2686451712 → sum_of a ≡ 1
 sum_9 a h k = grind arith
 
-user_9 : (a : ℕ) → 2684420096 ≤ a → a < 2686451712 → user a ≡ true
+pub user_9 : (a : ℕ) → 2684420096 ≤ a → a < 2686451712 → user a ≡ true
 unfolding user
 user_9 a h k = grind arith
 
 sum_10 : (a : ℕ) → 2686451712 ≤ a → a < 4294967296 → sum_of a ≡ 0
 sum_10 a h k = grind arith
 
-user_10 : (a : ℕ) → 2686451712 ≤ a → a < 4294967296 → user a ≡ false
+pub user_10 : (a : ℕ) → 2686451712 ≤ a → a < 4294967296 → user a ≡ false
 unfolding user
 user_10 a h k = grind arith
 

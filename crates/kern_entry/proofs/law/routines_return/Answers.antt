@@ -1,8 +1,5 @@
-use Rattle.kern_entry.proofs.Joins.{leave_returns, work_returns}
+use Rattle.kern_entry.proofs.Joins.{leave_returns, wait_returns, work_returns, bad_pointer_stops}
 use Rattle.kern_entry.proofs.law.routines_return.Goals as goal
 
-pub returns-clause-leave : goal.returns-clause-leave
-returns-clause-leave c = leave_returns
-
-pub returns-clause-work : goal.returns-clause-work
-returns-clause-work c = work_returns
+pub returns : goal.returns
+returns c = record { leave = leave_returns; wait = wait_returns; work = work_returns; bad_pointer = bad_pointer_stops }

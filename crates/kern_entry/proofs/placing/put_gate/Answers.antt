@@ -1,6 +1,6 @@
 use Rattle.std.proofs.Common.{ℕ, [], ◌∷◌, subst}
 use Rattle.kern_layout.specs.BlockWords.{IsBlock}
-use Rattle.kern_entry.specs.Words.{over}
+use Rattle.kern_stay.specs.Words.{over}
 use Rattle.kern_entry.proofs.placing.put_gate.Goals as goal
 
 pub returns : goal.returns

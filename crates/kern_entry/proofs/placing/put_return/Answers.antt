@@ -1,6 +1,6 @@
 use Rattle.std.proofs.Common.{ℕ, [], ◌∷◌, subst}
 use Rattle.kern_layout.specs.BlockWords.{IsBlock}
-use Rattle.kern_entry.specs.Words.{over}
+use Rattle.kern_stay.specs.Words.{over}
 use Rattle.psx_ins.specs.declared.ins.Ins.TheVariants.{JR}
 use Rattle.psx_ins.specs.Words.{word}
 use Rattle.kern_entry.specs.EntryWords.{k0}

@@ -1,0 +1,2 @@
+pub mod PutsMeets
+pub mod Served

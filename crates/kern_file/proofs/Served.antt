@@ -1,0 +1,21 @@
+-- Each listing stands at its address, and serves its call.
+use Rattle.std.proofs.Common.{refl, arith}
+use Rattle.kern_stay.specs.Shared.{tree}
+use Rattle.kern_stay.proofs.Standing.{placed_by}
+use Rattle.kern_file.specs.declared.places.TheConstants.{PUTS, PUTS_LOOP}
+use Rattle.kern_file.specs.declared.puts.TheConstants as puts_is
+use Rattle.kern_file.specs.FileLaws.{FileServes}
+use Rattle.kern_file.proofs.PutsMeets as of_puts
+
+pub file_serves : FileServes
+file_serves m r = record {
+  puts = record {
+    there = λ e. absurd (omega (arith, e));
+    listing = tree puts_is.NODES;
+    placed = placed_by m PUTS (tree puts_is.NODES) refl refl refl refl (r.0);
+    loop = PUTS_LOOP;
+    turns = tree puts_is.LOOP_NODES;
+    turns_placed = placed_by m PUTS_LOOP (tree puts_is.LOOP_NODES) refl refl refl refl (r.1.0);
+    serves = of_puts.serves;
+  };
+}

@@ -1,0 +1,24 @@
+//! The words of the crate in the kernel's block.
+ghost use Rattle.std.specs.Prelude.{ℕ};
+ghost use Rattle.kern_layout.specs.BlockWords.{IsBlock};
+ghost use Rattle.kern_stay.specs.Words.{overlaid};
+ghost use Rattle.kern_file.specs.FileWords.{file_pieces};
+ghost use Rattle.kern_file.specs.FileLaws.{FileServes};
+
+use crate::places::{PUTS, PUTS_LOOP};
+use crate::puts;
+use kern_layout::KernelBlock;
+use kern_stay::placing::put_listing;
+
+/// Writes the words of the listings at their addresses. Every other word stays.
+pub fn place(block: &mut KernelBlock)
+    ensures { (f : ℕ → ℕ) → IsBlock block.old f → IsBlock block.new (overlaid file_pieces f) }
+{
+    put_listing(block, PUTS_LOOP, &puts::LOOP_NODES);
+    put_listing(block, PUTS, &puts::NODES);
+}
+
+/// Where the words stand, each call is served by its listing. It does nothing.
+pub fn file_serves()
+    ensures { FileServes }
+{}

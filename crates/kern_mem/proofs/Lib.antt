@@ -1,0 +1,5 @@
+pub mod RandMeets
+pub mod SrandMeets
+pub mod MemchrMeets
+pub mod MemsetMeets
+pub mod Served

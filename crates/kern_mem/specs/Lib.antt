@@ -1,0 +1,2 @@
+pub mod MemWords
+pub mod MemLaws

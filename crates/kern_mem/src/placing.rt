@@ -1,0 +1,26 @@
+//! The words of the crate in the kernel's block.
+ghost use Rattle.std.specs.Prelude.{ℕ};
+ghost use Rattle.kern_layout.specs.BlockWords.{IsBlock};
+ghost use Rattle.kern_stay.specs.Words.{overlaid};
+ghost use Rattle.kern_mem.specs.MemWords.{mem_pieces};
+ghost use Rattle.kern_mem.specs.MemLaws.{MemServes};
+
+use crate::places::{MEMCHR, MEMSET, RAND, SRAND};
+use crate::{memchr, memset, rand, srand};
+use kern_layout::KernelBlock;
+use kern_stay::placing::put_listing;
+
+/// Writes the words of the listings at their addresses. Every other word stays.
+pub fn place(block: &mut KernelBlock)
+    ensures { (f : ℕ → ℕ) → IsBlock block.old f → IsBlock block.new (overlaid mem_pieces f) }
+{
+    put_listing(block, SRAND, &srand::NODES);
+    put_listing(block, RAND, &rand::NODES);
+    put_listing(block, MEMCHR, &memchr::NODES);
+    put_listing(block, MEMSET, &memset::NODES);
+}
+
+/// Where the words stand, each call is served by its listing. It does nothing.
+pub fn mem_serves()
+    ensures { MemServes }
+{}

@@ -1,0 +1,94 @@
+-- What the proof of a routine cites besides psx_flow's Kit: its ends, what is left of its stay, and its accesses to user memory.
+use Rattle.std.proofs.Common.{◌≡◌, ℕ, ◌+◌, ◌*◌, ◌%◌, ◌^◌, ◌/◌, ◌⊎◌, ◌<◌, ◌≤◌, [], Bool, true, false, refl, sym, ap, ◌∙◌, subst, arith}
+use Rattle.std.specs.Prelude.{nat_eq, ◌&&◌, ◌||◌, if◌then◌else◌}
+use Rattle.std.proofs.lemmas.Bool.{false≢true}
+use Rattle.psx_base.specs.Addresses.{place, user, top, low, user_main, scratchpad}
+use Rattle.psx_base.specs.Memory.{Memory, byte}
+use Rattle.psx_base.specs.KernelState.{KernelState}
+use Rattle.psx_flow.specs.Run.{Run}
+use Rattle.psx_flow.specs.Told.{ports}
+use Rattle.abs_kernel.specs.Stay.{Stay}
+use Rattle.abs_kernel.specs.Answered.{answered}
+use Rattle.abs_kernel.specs.UserBytes.{count_of, bad_pointer, reads_byte, writes_byte, with_byte}
+use Rattle.kern_stay.specs.declared.places.TheConstants.{LEAVE, BAD_POINTER}
+use Rattle.kern_stay.specs.Doors.{Holds, Ends, Through, most_nodes}
+
+-- ---- the ends, of a stay that accesses no port
+
+pub through : (stay : Stay) (most to : ℕ) (e : Run) → ports e.seen ≡ [] → Ends 32 stay most to e → Through stay most to e
+through stay most to e q h = record { told = []; ports = q; follows = tt; ends = h }
+
+pub answers : (most : ℕ) (state : KernelState) (e : Run) (stay : Stay) → stay ≡ answered state e.regs.r2 → Holds state e.bytes → e.passed ≤ most → Ends 32 stay most LEAVE e
+answers most state e stay is h few = subst (λ x. Ends 32 x most LEAVE e) (sym is) (few, record { state = state; is = refl; holds = h })
+
+pub refuses : (most : ℕ) (state : KernelState) (e : Run) (stay : Stay) → stay ≡ bad_pointer state e.regs.r8 → Holds state e.bytes → e.passed ≤ most → Ends 32 stay most BAD_POINTER e
+refuses most state e stay is h few = subst (λ x. Ends 32 x most BAD_POINTER e) (sym is) (few, record { state = state; is = refl; memory_is = refl; holds = h })
+
+-- ---- what is left of a stay, and how many nodes it may end at
+
+pub record Left (stay rest : Stay) (most : ℕ) : Type 0 where
+  pub enough : (to : ℕ) (e : Run) → Ends 32 rest most to e → Ends 32 stay most_nodes to e
+
+pub left_all : (stay : Stay) → Left stay stay most_nodes
+left_all stay = record { enough = λ to e h. h }
+
+pub left_is : (stay rest now : Stay) (most : ℕ) → rest ≡ now → Left stay rest most → Left stay now most
+left_is stay rest now most e l = subst (λ x. Left stay x most) e l
+
+-- a byte that is user memory is read or written, and another is refused
+pub left_read : (stay : Stay) (s : KernelState) (at : ℕ) (next : ℕ → Stay) (most : ℕ) → user at ≡ true → Left stay (reads_byte s at next) most → Left stay (next (byte s.memory (place at))) (most + 32)
+left_read stay s at next most u l =
+    let is : (if user at then next (byte s.memory (place at)) else bad_pointer s at) ≡ next (byte s.memory (place at)) = ap (λ b. if b then next (byte s.memory (place at)) else bad_pointer s at) u in
+    record { enough = λ to e h. l.enough to e (subst (λ x. Ends 32 x (most + 32) to e) (sym is) h) }
+
+pub left_written : (stay : Stay) (s : KernelState) (at value : ℕ) (next : KernelState → Stay) (most : ℕ) → user at ≡ true → Left stay (writes_byte s at value next) most → Left stay (next (with_byte s at value)) (most + 32)
+left_written stay s at value next most u l =
+    let is : (if user at then next (with_byte s at value) else bad_pointer s at) ≡ next (with_byte s at value) = ap (λ b. if b then next (with_byte s at value) else bad_pointer s at) u in
+    record { enough = λ to e h. l.enough to e (subst (λ x. Ends 32 x (most + 32) to e) (sym is) h) }
+
+pub left_unread : (stay : Stay) (s : KernelState) (at : ℕ) (next : ℕ → Stay) (most : ℕ) → user at ≡ false → Left stay (reads_byte s at next) most → Left stay (bad_pointer s at) (most + 32)
+left_unread stay s at next most u l =
+    let is : (if user at then next (byte s.memory (place at)) else bad_pointer s at) ≡ bad_pointer s at = ap (λ b. if b then next (byte s.memory (place at)) else bad_pointer s at) u in
+    record { enough = λ to e h. l.enough to e (subst (λ x. Ends 32 x (most + 32) to e) (sym is) h) }
+
+pub left_unwritten : (stay : Stay) (s : KernelState) (at value : ℕ) (next : KernelState → Stay) (most : ℕ) → user at ≡ false → Left stay (writes_byte s at value next) most → Left stay (bad_pointer s at) (most + 32)
+left_unwritten stay s at value next most u l =
+    let is : (if user at then next (with_byte s at value) else bad_pointer s at) ≡ bad_pointer s at = ap (λ b. if b then next (with_byte s at value) else bad_pointer s at) u in
+    record { enough = λ to e h. l.enough to e (subst (λ x. Ends 32 x (most + 32) to e) (sym is) h) }
+
+-- ---- an access at a register without an offset
+
+pub here : (a : ℕ) → a < 2 ^ 32 → (a + 0) % 2 ^ 32 ≡ a
+here a h = omega arith
+
+in_segment : (t0 t4 t5 m s : Bool) → (((t0 || (t4 || t5)) && m) || ((t0 || t4) && s)) ≡ true → ((t0 || (t4 || t5)) ≡ true) × ((m || s) ≡ true)
+in_segment true t4 t5 true s h = (refl, refl)
+in_segment true t4 t5 false s h = (refl, h)
+in_segment false true t5 true s h = (refl, refl)
+in_segment false true t5 false s h = (refl, h)
+in_segment false false true true s h = (refl, refl)
+in_segment false false true false s h = absurd (false≢true h)
+in_segment false false false m s h = absurd (false≢true h)
+
+user_place : (a : ℕ) → user a ≡ true → (user_main (place a) || scratchpad (place a)) ≡ true
+unfolding user
+user_place a u =
+    let b = in_segment (nat_eq (top a) 0) (nat_eq (top a) 4) (nat_eq (top a) 5) (user_main (low a)) (scratchpad (low a)) u in
+    ap (λ x. user_main (if x then low a else 2 ^ 29) || scratchpad (if x then low a else 2 ^ 29)) b.0 ∙ b.1
+
+-- what is loaded there is the state's
+pub user_byte : (s : KernelState) (m : Memory) → Holds s m → (a : ℕ) → user a ≡ true → byte m (place a) ≡ byte s.memory (place a)
+user_byte s m h a u = h.user (place a) (user_place a u)
+
+-- ---- arguments
+
+-- a count of 0 or less, and another
+pub no_count : (n : ℕ) → (n ≡ 0) ⊎ (2 ^ 31 ≤ n) → count_of n ≡ 0
+no_count n h = grind arith
+
+pub a_count : (n : ℕ) → n < 2 ^ 31 → count_of n ≡ n
+a_count n h = grind arith
+
+-- the low byte, by two shifts
+pub low_byte : (x : ℕ) → x * 2 ^ 24 % 2 ^ 32 / 2 ^ 24 ≡ x % 2 ^ 8
+low_byte x = omega arith

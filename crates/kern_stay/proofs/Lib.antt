@@ -1,0 +1,12 @@
+pub mod RoomLeft
+pub mod RoomGiven
+pub mod Holding
+pub mod Ending
+pub mod Over
+pub mod Trees
+pub mod Telling
+pub mod Standing
+pub mod Cursor
+pub mod Passing
+pub mod Copying
+pub mod Switching

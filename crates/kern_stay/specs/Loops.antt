@@ -1,0 +1,64 @@
+-- Routines with a loop that accesses ports. The loop is a listing of its own, which jumps to itself: each turn pays by its accesses for the nodes that it passes.
+use Rattle.std.specs.Prelude.{◌≡◌, ℕ, zero, suc, ◌+◌, ◌*◌, ◌≤◌, cond, nat_eq, List, [], ◌∷◌}
+use Rattle.psx_base.specs.Memory.{Memory}
+use Rattle.psx_base.specs.Registers.{Registers}
+use Rattle.psx_base.specs.KernelState.{KernelState}
+use Rattle.psx_cpu.specs.Processor.{Cop0}
+use Rattle.psx_flow.specs.Tree.{Tree}
+use Rattle.psx_flow.specs.Run.{Run, Access, Load, Store, PortRead, PortWrite}
+use Rattle.psx_flow.specs.Told.{ports}
+use Rattle.psx_flow.specs.Kernel.{kernel_words}
+use Rattle.psx_flow.specs.Reaches.{IsPlaced}
+use Rattle.psx_flow.specs.Meets.{Goal, Meets, calls}
+use Rattle.abs_kernel.specs.Stay.{Stay, Return, Halt, Ask, Tell, Write, Touch}
+use Rattle.abs_kernel.specs.Answered.{registers_of}
+use Rattle.kern_stay.specs.Follows.{after, Follows}
+use Rattle.kern_stay.specs.Shared.{shared}
+use Rattle.kern_stay.specs.Doors.{Ends, Arrives, called_with, begun, most_nodes}
+
+-- the units of a stay up to its next access to a port, that one among them
+abbrev pub units : Stay → ℕ
+units (Return state) = 0
+units (Halt stop memory) = 0
+units (Ask port next) = 1
+units (Tell port value next) = 1
+units (Write byte next) = 1
+units (Touch bytes next) = bytes + units next
+
+-- the units up to the last of accesses, newest first
+abbrev pub earned : Stay → List Access → ℕ
+earned stay [] = 0
+earned stay (Load size at value ∷ q) = earned stay q
+earned stay (Store size at value ∷ q) = earned stay q
+earned stay (PortRead at value ∷ q) = earned stay q + units (after stay q)
+earned stay (PortWrite at value ∷ q) = earned stay q + units (after stay q)
+
+-- a stay comes through a door, or to the loop's address, with accesses behind which the rest is left
+pub record Passes (loop : ℕ) (again : List Access → Stay → Goal) (stay : Stay) (most to : ℕ) (e : Run) : Type 0 where
+  pub told : List Access
+  pub ports : ports e.seen ≡ told
+  pub follows : Follows stay told
+  pub ends : cond (nat_eq to loop) (again told (after stay told) e) (Ends 0 (after stay told) most to e)
+
+-- From the loop's address the stay is made in less than so many turns. A turn passes so many nodes at most, and where it isn't the last it has earned them: a unit is worth 32 nodes.
+abbrev pub Repeats : (loop : ℕ) → Tree → (turns : ℕ) → Stay → Goal
+Repeats loop T zero stay e = ⊥
+Repeats loop T (suc n) stay e =
+    (most : ℕ) × (most ≤ most_nodes)
+    × Meets kernel_words (calls kernel_words shared) T loop (λ _. ⊥) (λ to f. Passes loop (λ told rest g. (g.passed ≤ most) × (most ≤ 32 * earned stay told) × Repeats loop T n rest g) stay most to f) (begun e.regs e.cop0 e.bytes)
+
+-- a listing at an address serves a call, with a loop that it jumps to
+abbrev pub ServesBy : (KernelState → Stay) → ℕ → Tree → ℕ → Tree → Type 0
+ServesBy stay at T loop L =
+    (s : KernelState) (d : Registers) (z : Cop0) (m : Memory) → Arrives s m
+    → Meets kernel_words (calls kernel_words shared) T at (λ _. ⊥) (λ to e. Passes loop (λ told rest g. (g.passed ≤ most_nodes) × ((n : ℕ) × Repeats loop L n rest g)) (stay s) most_nodes to e) (begun (called_with (registers_of s) d) z m)
+
+-- a call is served by two listings that stand at their addresses
+pub record IsServedBy (m : Memory) (stay : KernelState → Stay) (at : ℕ) : Type 0 where
+  pub there : at ≡ 0 → ⊥
+  pub listing : Tree
+  pub placed : IsPlaced kernel_words m at listing
+  pub loop : ℕ
+  pub turns : Tree
+  pub turns_placed : IsPlaced kernel_words m loop turns
+  pub serves : ServesBy stay at listing loop turns

@@ -1,0 +1,34 @@
+//! Where a routine's words end, and the listings that it may call, in the cached segment, in which the kernel runs.
+use kern_layout::places::{
+    LEAVE as LEAVE_PLACE, TESTED_READ_BYTE, TESTED_READ_WORD, TESTED_WRITE_BYTE, TESTED_WRITE_WORD,
+};
+
+/// The first address of the cached segment.
+pub const CACHED: u32 = 0x8000_0000;
+
+/// Where a routine arrives with its answer in r2.
+pub const LEAVE: u32 = CACHED + LEAVE_PLACE;
+
+/// Where a call arrives that waits: the context of the work area is taken up as it is.
+pub const WAIT: u32 = LEAVE + 0x80;
+
+/// Where a routine arrives with an address in r8 that isn't user memory.
+pub const BAD_POINTER: u32 = CACHED + 0x1800;
+
+/// The listing that counts the bytes of user memory from an address on.
+pub const ROOM: u32 = CACHED + 0x1840;
+
+/// The listing that copies words of the kernel's data.
+pub const COPY: u32 = CACHED + 0x1900;
+
+/// The listing that reads a byte of user memory.
+pub const READ_BYTE: u32 = CACHED + TESTED_READ_BYTE;
+
+/// The listing that writes a byte of user memory.
+pub const WRITE_BYTE: u32 = CACHED + TESTED_WRITE_BYTE;
+
+/// The listing that reads a word of user memory.
+pub const READ_WORD: u32 = CACHED + TESTED_READ_WORD;
+
+/// The listing that writes a word of user memory.
+pub const WRITE_WORD: u32 = CACHED + TESTED_WRITE_WORD;

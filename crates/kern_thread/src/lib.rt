@@ -1,0 +1,5 @@
+//! The calls on threads.
+#![tactic(auto)]
+
+pub mod change;
+pub mod places;

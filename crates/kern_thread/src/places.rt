@@ -1,0 +1,28 @@
+//! Where the routines stand, in the cached segment, in which the kernel runs, and the kernel's data as the listings reach it.
+use kern_layout::places::{CURRENT, WORK_AREA};
+use kern_layout::ranges::{THREAD_CODE, THREADS};
+use kern_stay::places::CACHED;
+
+/// The listing of ChangeThread.
+pub const CHANGE: u32 = CACHED + THREAD_CODE.from;
+
+/// The upper half of the data's addresses, 1 more since the lower half counts as negative.
+pub const DATA: u16 = 0x8001;
+
+/// The lower half of the first thread's block.
+pub const BLOCKS: u16 = THREADS.from as u16;
+
+/// The running thread's number.
+pub const RUNNING: u16 = CURRENT as u16;
+
+/// The work area's place of r2.
+pub const AREA_R2: u16 = (WORK_AREA + 0x10) as u16;
+
+/// That of r31.
+pub const AREA_R31: u16 = (WORK_AREA + 0x84) as u16;
+
+/// That of the address at which the context goes on.
+pub const AREA_PC: u16 = (WORK_AREA + 0x88) as u16;
+
+/// Where the words of a context begin, in the work area.
+pub const AREA_CONTEXT: u16 = (WORK_AREA + 0xC) as u16;
