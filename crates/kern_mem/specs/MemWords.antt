@@ -1,7 +1,8 @@
 -- The words of the crate's listings.
 use Rattle.std.specs.Prelude.{ℕ, List, [], ◌∷◌}
 use Rattle.kern_stay.specs.Words.{listing}
-use Rattle.kern_mem.specs.declared.places.TheConstants.{MEMSET, MEMCHR, RAND, SRAND}
+use Rattle.kern_stay.specs.declared.room.TheConstants.{ROOM_NODES}
+use Rattle.kern_mem.specs.declared.places.TheConstants.{MEMSET, MEMCHR, RAND, SRAND, ROOM}
 use Rattle.kern_mem.specs.declared.memset.TheConstants as memset
 use Rattle.kern_mem.specs.declared.memchr.TheConstants as memchr
 use Rattle.kern_mem.specs.declared.rand.TheConstants as rand
@@ -9,4 +10,4 @@ use Rattle.kern_mem.specs.declared.srand.TheConstants as srand
 
 -- in the order of their addresses
 abbrev pub mem_pieces : List (ℕ × List ℕ)
-mem_pieces = listing MEMSET memset.NODES ∷ listing MEMCHR memchr.NODES ∷ listing RAND rand.NODES ∷ listing SRAND srand.NODES ∷ []
+mem_pieces = listing MEMSET memset.NODES ∷ listing MEMCHR memchr.NODES ∷ listing RAND rand.NODES ∷ listing SRAND srand.NODES ∷ listing ROOM ROOM_NODES ∷ []

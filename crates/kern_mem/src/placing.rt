@@ -5,15 +5,17 @@ ghost use Rattle.kern_stay.specs.Words.{overlaid};
 ghost use Rattle.kern_mem.specs.MemWords.{mem_pieces};
 ghost use Rattle.kern_mem.specs.MemLaws.{MemServes};
 
-use crate::places::{MEMCHR, MEMSET, RAND, SRAND};
+use crate::places::{MEMCHR, MEMSET, RAND, ROOM, SRAND};
 use crate::{memchr, memset, rand, srand};
 use kern_layout::KernelBlock;
 use kern_stay::placing::put_listing;
+use kern_stay::room::ROOM_NODES;
 
 /// Writes the words of the listings at their addresses. Every other word stays.
 pub fn place(block: &mut KernelBlock)
     ensures { (f : ℕ → ℕ) → IsBlock block.old f → IsBlock block.new (overlaid mem_pieces f) }
 {
+    put_listing(block, ROOM, &ROOM_NODES);
     put_listing(block, SRAND, &srand::NODES);
     put_listing(block, RAND, &rand::NODES);
     put_listing(block, MEMCHR, &memchr::NODES);
