@@ -5,8 +5,8 @@ ghost use Rattle.kern_stay.specs.Words.{overlaid};
 ghost use Rattle.kern_file.specs.FileWords.{file_pieces};
 ghost use Rattle.kern_file.specs.FileLaws.{FileServes};
 
+use crate::a3e_puts;
 use crate::places::{PUTS, PUTS_LOOP};
-use crate::puts;
 use kern_layout::KernelBlock;
 use kern_stay::placing::put_listing;
 
@@ -14,8 +14,8 @@ use kern_stay::placing::put_listing;
 pub fn place(block: &mut KernelBlock)
     ensures { (f : ℕ → ℕ) → IsBlock block.old f → IsBlock block.new (overlaid file_pieces f) }
 {
-    put_listing(block, PUTS_LOOP, &puts::LOOP_NODES);
-    put_listing(block, PUTS, &puts::NODES);
+    put_listing(block, PUTS_LOOP, &a3e_puts::LOOP_NODES);
+    put_listing(block, PUTS, &a3e_puts::NODES);
 }
 
 /// Where the words stand, each call is served by its listing. It does nothing.

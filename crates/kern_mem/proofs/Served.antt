@@ -3,15 +3,15 @@ use Rattle.std.proofs.Common.{refl, arith}
 use Rattle.kern_stay.specs.Shared.{tree}
 use Rattle.kern_stay.proofs.Standing.{placed_by}
 use Rattle.kern_mem.specs.declared.places.TheConstants.{MEMSET, MEMCHR, RAND, SRAND}
-use Rattle.kern_mem.specs.declared.memset.TheConstants as memset_is
-use Rattle.kern_mem.specs.declared.memchr.TheConstants as memchr_is
-use Rattle.kern_mem.specs.declared.rand.TheConstants as rand_is
-use Rattle.kern_mem.specs.declared.srand.TheConstants as srand_is
+use Rattle.kern_mem.specs.declared.a2b_memset.TheConstants as memset_is
+use Rattle.kern_mem.specs.declared.a2e_memchr.TheConstants as memchr_is
+use Rattle.kern_mem.specs.declared.a2f_rand.TheConstants as rand_is
+use Rattle.kern_mem.specs.declared.a30_srand.TheConstants as srand_is
 use Rattle.kern_mem.specs.MemLaws.{MemServes}
-use Rattle.kern_mem.proofs.MemsetMeets as of_memset
-use Rattle.kern_mem.proofs.MemchrMeets as of_memchr
-use Rattle.kern_mem.proofs.RandMeets as of_rand
-use Rattle.kern_mem.proofs.SrandMeets as of_srand
+use Rattle.kern_mem.proofs.A2bMemset as of_memset
+use Rattle.kern_mem.proofs.A2eMemchr as of_memchr
+use Rattle.kern_mem.proofs.A2fRand as of_rand
+use Rattle.kern_mem.proofs.A30Srand as of_srand
 
 pub mem_serves : MemServes
 mem_serves m r = record {

@@ -2,10 +2,10 @@
 use Rattle.std.specs.Prelude.{ℕ, List, [], ◌∷◌}
 use Rattle.kern_stay.specs.Words.{listing}
 use Rattle.kern_mem.specs.declared.places.TheConstants.{MEMSET, MEMCHR, RAND, SRAND}
-use Rattle.kern_mem.specs.declared.memset.TheConstants as memset
-use Rattle.kern_mem.specs.declared.memchr.TheConstants as memchr
-use Rattle.kern_mem.specs.declared.rand.TheConstants as rand
-use Rattle.kern_mem.specs.declared.srand.TheConstants as srand
+use Rattle.kern_mem.specs.declared.a2b_memset.TheConstants as memset
+use Rattle.kern_mem.specs.declared.a2e_memchr.TheConstants as memchr
+use Rattle.kern_mem.specs.declared.a2f_rand.TheConstants as rand
+use Rattle.kern_mem.specs.declared.a30_srand.TheConstants as srand
 
 -- in the order of their addresses
 abbrev pub mem_pieces : List (ℕ × List ℕ)
