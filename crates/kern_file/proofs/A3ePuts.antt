@@ -5,8 +5,8 @@ use Rattle.std.specs.Prelude.{nat_eq, if◌then◌else◌}
 use Rattle.psx_base.specs.KernelState.{KernelState}
 use Rattle.abs_kernel.specs.Stay.{Stay, Write, Touch}
 use Rattle.abs_kernel.specs.Answered.{registers_of, answered}
-use Rattle.abs_kernel.specs.UserBytes.{reads_byte, bad_pointer, following}
-use Rattle.abs_kernel.specs.Console.{write_text, put_text, longest}
+use Rattle.abs_kernel.specs.UserBytes.{reads_byte, bad_pointer, following, longest}
+use Rattle.abs_kernel.specs.Puts.{write_text, puts}
 use Rattle.abs_kernel.specs.declared.calls.CallId.TheVariants.{A3E}
 use Rattle.abs_kernel.specs.Calls.{call}
 use Rattle.kern_stay.specs.Room.{room}
@@ -87,10 +87,10 @@ serves s d z m h =
     let sp = span_some a n 1 small (λ e. absurd (omega (arith, e))) (omega arith) in
     let few : n ≤ longest = room_short a in
     let first : List Access → Stay → Goal = λ told rest g. (g.passed ≤ most_nodes) × ((j : ℕ) × Repeats PUTS_LOOP (tree LOOP_NODES) j rest g) in
-    start C knows_room.fair (tree NODES) PUTS (λ _. ⊥) (λ to e. Passes PUTS_LOOP first (put_text s) most_nodes to e) (begun (called_with (registers_of s) d) z m) (
-      λ none. passed PUTS_LOOP first (put_text s) most_nodes _ _ refl refl (answers_now s most_nodes _ (put_text s) (null a (answered s 0) (write_text longest s a) none) h.holds (omega arith)),
+    start C knows_room.fair (tree NODES) PUTS (λ _. ⊥) (λ to e. Passes PUTS_LOOP first (puts s) most_nodes to e) (begun (called_with (registers_of s) d) z m) (
+      λ none. passed PUTS_LOOP first (puts s) most_nodes _ _ refl refl (answers_now s most_nodes _ (puts s) (null a (answered s 0) (write_text longest s a) none) h.holds (omega arith)),
       λ some.
-          knows_room.room _ _ _ _ _ _ _ small (λ x y p up. enters PUTS_LOOP first (put_text s) most_nodes _ refl refl (
-            omega arith, starts s a n ((a + room a) % 2 ^ 32) sp (put_text s) _ (record { fuel = longest; some = few; is = not_null a (answered s 0) (write_text longest s a) some; holds = h.holds; r11 = refl; r26 = refl; cursor = record { low = omega arith; high = sp.low; count = refl } }),
+          knows_room.room _ _ _ _ _ _ _ small (λ x y p up. enters PUTS_LOOP first (puts s) most_nodes _ refl refl (
+            omega arith, starts s a n ((a + room a) % 2 ^ 32) sp (puts s) _ (record { fuel = longest; some = few; is = not_null a (answered s 0) (write_text longest s a) some; holds = h.holds; r11 = refl; r26 = refl; cursor = record { low = omega arith; high = sp.low; count = refl } }),
           )),
     )

@@ -13,7 +13,7 @@ use Rattle.abs_kernel.proofs.Moved.{valid_moved}
 use Rattle.abs_kernel.specs.Stay.{Stay}
 use Rattle.abs_kernel.specs.Answered.{registers_of, answered}
 use Rattle.abs_kernel.specs.UserBytes.{writes_byte, bad_pointer, following, count_of, with_byte}
-use Rattle.abs_kernel.specs.MemoryCalls.{fill, memset}
+use Rattle.abs_kernel.specs.Memset.{fill, memset}
 use Rattle.abs_kernel.specs.declared.calls.CallId.TheVariants.{A2B}
 use Rattle.abs_kernel.specs.Calls.{call}
 use Rattle.kern_stay.specs.Room.{room}

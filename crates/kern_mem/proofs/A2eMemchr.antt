@@ -11,7 +11,7 @@ use Rattle.psx_flow.specs.Told.{ports}
 use Rattle.abs_kernel.specs.Stay.{Stay}
 use Rattle.abs_kernel.specs.Answered.{registers_of, answered}
 use Rattle.abs_kernel.specs.UserBytes.{reads_byte, bad_pointer, following, count_of}
-use Rattle.abs_kernel.specs.MemoryCalls.{find_byte, memchr}
+use Rattle.abs_kernel.specs.Memchr.{find_byte, memchr}
 use Rattle.abs_kernel.specs.declared.calls.CallId.TheVariants.{A2E}
 use Rattle.abs_kernel.specs.Calls.{call}
 use Rattle.kern_stay.specs.Room.{room}

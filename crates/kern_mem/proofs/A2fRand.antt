@@ -2,7 +2,7 @@
 use Rattle.psx_flow.proofs.Kit.{◌≡◌, ℕ, ◌+◌, ◌*◌, ◌%◌, ◌^◌, ◌<◌, refl, sym, ap, ◌∙◌, arith, word, calls, kernel_words, start}
 use Rattle.std.proofs.Common.{◌/◌}
 use Rattle.abs_kernel.specs.Answered.{registers_of, answered}
-use Rattle.abs_kernel.specs.Random.{random_next, with_random, rand}
+use Rattle.abs_kernel.specs.Rand.{random_next, with_random, rand}
 use Rattle.abs_kernel.specs.declared.calls.CallId.TheVariants.{A2F}
 use Rattle.abs_kernel.specs.Calls.{call}
 use Rattle.kern_stay.specs.Shared.{tree, shared}

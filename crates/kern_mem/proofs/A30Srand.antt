@@ -1,7 +1,8 @@
 -- srand meets its stay.
 use Rattle.psx_flow.proofs.Kit.{ℕ, refl, arith, calls, kernel_words, start}
 use Rattle.abs_kernel.specs.Answered.{registers_of}
-use Rattle.abs_kernel.specs.Random.{with_random, seed}
+use Rattle.abs_kernel.specs.Rand.{with_random}
+use Rattle.abs_kernel.specs.Srand.{srand}
 use Rattle.abs_kernel.specs.declared.calls.CallId.TheVariants.{A30}
 use Rattle.abs_kernel.specs.Calls.{call}
 use Rattle.kern_stay.specs.Shared.{tree, shared}
@@ -15,5 +16,5 @@ use Rattle.kern_mem.specs.declared.a30_srand.TheConstants.{NODES}
 pub serves : Serves (call A30) SRAND (tree NODES)
 serves s d z m h =
     let v : ℕ = (registers_of s).r4 in
-    start (calls kernel_words shared) knows_room.fair (tree NODES) SRAND (λ _. ⊥) (λ to e. Through (seed s) most_nodes to e) (begun (called_with (registers_of s) d) z m)
-    (through (seed s) most_nodes _ _ refl (answers most_nodes (with_random s v) _ (seed s) refl (holds_random s h.valid m h.holds v) (omega arith)))
+    start (calls kernel_words shared) knows_room.fair (tree NODES) SRAND (λ _. ⊥) (λ to e. Through (srand s) most_nodes to e) (begun (called_with (registers_of s) d) z m)
+    (through (srand s) most_nodes _ _ refl (answers most_nodes (with_random s v) _ (srand s) refl (holds_random s h.valid m h.holds v) (omega arith)))
