@@ -1,14 +1,13 @@
 -- That the crate's calls are served.
 use Rattle.psx_base.specs.Memory.{Memory, word}
-use Rattle.abs_kernel.specs.declared.calls.CallId.TheVariants.{A1B}
-use Rattle.abs_kernel.specs.Calls.{call}
+use Rattle.abs_kernel.specs.Strlen as definition
 use Rattle.kern_stay.specs.Words.{Stand}
 use Rattle.kern_stay.specs.Doors.{IsServed}
 use Rattle.kern_text.specs.declared.places.TheConstants.{STRLEN}
 use Rattle.kern_text.specs.TextWords.{text_pieces}
 
 pub record TextServed (m : Memory) : Type 0 where
-  pub strlen : IsServed m (call A1B) STRLEN
+  pub strlen : IsServed m definition.strlen STRLEN
 
 -- where its words stand
 abbrev pub TextServes : Type 0

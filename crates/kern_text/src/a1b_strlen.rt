@@ -3,8 +3,7 @@ ghost use Rattle.std.specs.Prelude.{◌≡◌, IsTrue, IfSome};
 ghost use Rattle.psx_flow.specs.Reading.{tree_of};
 ghost use Rattle.psx_flow.specs.Well.{is_well};
 ghost use Rattle.psx_flow.specs.Spaced.{is_spaced};
-ghost use Rattle.abs_kernel.specs.declared.calls.CallId.TheVariants.{A1B};
-ghost use Rattle.abs_kernel.specs.Calls.{call};
+ghost use Rattle.abs_kernel.specs.Strlen.{strlen};
 ghost use Rattle.kern_stay.specs.Doors.{Serves};
 ghost use Rattle.kern_text.specs.declared.a1b_strlen.TheConstants.{NODES};
 ghost use Rattle.kern_text.specs.declared.places.TheConstants.{STRLEN};
@@ -40,7 +39,7 @@ pub fn strlen() -> &'static [Node]
     ensures listing { result.now ≡ NODES }
     ensures well { IsTrue (is_well result.now) }
     ensures spaced { IsTrue (is_spaced result.now) }
-    ensures serves { IfSome (tree_of result.now) (λ tree. Serves (call A1B) STRLEN tree) }
+    ensures serves { IfSome (tree_of result.now) (λ tree. Serves strlen STRLEN tree) }
 {
     &NODES
 }
