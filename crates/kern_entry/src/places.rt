@@ -60,12 +60,6 @@ pub const SYSCALLS: u32 = WORK + 0x100;
 /// Stops for an address in r8 that isn't user memory.
 pub const BAD_POINTER: u32 = places::BAD_POINTER;
 
-/// Counts the bytes of user memory from an address on.
-pub const ROOM: u32 = places::ROOM;
-
-/// Copies words of the kernel's data.
-pub const COPY: u32 = places::COPY;
-
 /// The listing that reads a byte of user memory.
 pub const READ_BYTE: u32 = places::READ_BYTE;
 

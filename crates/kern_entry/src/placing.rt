@@ -11,9 +11,8 @@ ghost use Rattle.kern_entry.specs.EntryWords.{gate, return_words, vector_pieces,
 use crate::calls::{CALL_A_NODES, CALL_B_NODES, CALL_C_NODES, EXIT_NODES, PUTCHAR_NODES};
 use crate::leave::{BEHIND_NODES, LEAVE_NODES, RESUME_NODES, RETURN, WORK_NODES};
 use crate::places::{
-    COPY,
     BACK, BAD_POINTER, BEHIND, CACHED, CALL_A, CALL_B, CALL_C, CAUSES, DONE, EXCEPTION, EXIT,
-    LEAVE, PUTCHAR, READ_BYTE, READ_WORD, RESUME, ROOM, SAVE, SYSCALLS, UNSERVED, VECTOR, WORK,
+    LEAVE, PUTCHAR, READ_BYTE, READ_WORD, RESUME, SAVE, SYSCALLS, UNSERVED, VECTOR, WORK,
     WRITE_BYTE, WRITE_WORD,
 };
 use crate::save::{CAUSES_NODES, SAVE_NODES, VECTOR_NODES};
@@ -22,8 +21,6 @@ use crate::sys::SYSCALLS_NODES;
 use kern_layout::KernelBlock;
 use kern_layout::ranges::{GATE_A, GATE_B, GATE_BACK, GATE_C, GATE_DONE};
 use kern_stay::placing::{put_listing, put_words};
-use kern_stay::copy::COPY_NODES;
-use kern_stay::room::ROOM_NODES;
 use psx_flow::{listings, register};
 use psx_ins::encode;
 use psx_ins::ins::Ins;
@@ -82,8 +79,6 @@ fn place_leave(block: &mut KernelBlock)
 fn place_routines(block: &mut KernelBlock)
     ensures { (f : ℕ → ℕ) → IsBlock block.old f → IsBlock block.new (overlaid routine_pieces f) }
 {
-    put_listing(block, COPY, &COPY_NODES);
-    put_listing(block, ROOM, &ROOM_NODES);
     put_listing(block, BAD_POINTER, &BAD_POINTER_NODES);
     put_listing(block, SYSCALLS, &SYSCALLS_NODES);
     put_listing(block, PUTCHAR, &PUTCHAR_NODES);

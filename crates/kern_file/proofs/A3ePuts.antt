@@ -1,5 +1,5 @@
 -- puts meets its stay.
-use Rattle.psx_flow.proofs.Kit.{◌≡◌, ℕ, suc, ◌+◌, ◌-◌, ◌*◌, ◌%◌, ◌^◌, ◌<◌, ◌≤◌, refl, sym, ap, ◌∙◌, arith, byte, Run, Goal, Calls, calls, Access, place, kernel_words, start}
+use Rattle.psx_flow.proofs.Kit.{◌≡◌, ℕ, suc, ◌+◌, ◌-◌, ◌*◌, ◌%◌, ◌^◌, ◌<◌, ◌≤◌, ◌++◌, refl, sym, ap, ◌∙◌, arith, byte, Run, Goal, Calls, calls, Access, place, kernel_words, start}
 use Rattle.std.proofs.Common.{zero, List, eq-eqb, ne_eqb}
 use Rattle.std.specs.Prelude.{nat_eq, if◌then◌else◌}
 use Rattle.psx_base.specs.KernelState.{KernelState}
@@ -10,15 +10,16 @@ use Rattle.abs_kernel.specs.Puts.{write_text, puts}
 use Rattle.abs_kernel.specs.declared.calls.CallId.TheVariants.{A3E}
 use Rattle.abs_kernel.specs.Calls.{call}
 use Rattle.kern_stay.specs.Room.{room}
-use Rattle.kern_stay.specs.Shared.{tree, shared}
+use Rattle.kern_stay.specs.Shared.{tree, tested_there}
 use Rattle.kern_stay.specs.Doors.{Holds, called_with, begun, most_nodes}
 use Rattle.kern_stay.specs.Loops.{Passes, Repeats, ServesBy, units, earned}
-use Rattle.kern_stay.proofs.RoomGiven.{knows_room}
+use Rattle.kern_stay.proofs.RoomGiven.{KnowsRoom, knows_room}
 use Rattle.kern_stay.proofs.RoomLeft.{Span, span_some, room_few}
 use Rattle.kern_stay.proofs.Ending.{user_byte}
 use Rattle.kern_stay.proofs.Passing.{passed, answers_now, answers_last, refuses_last, enters, printed}
 use Rattle.kern_stay.proofs.Cursor.{Cursor, coming, done_bad, null, not_null}
-use Rattle.kern_file.specs.declared.places.TheConstants.{PUTS, PUTS_LOOP}
+use Rattle.kern_file.specs.Own.{own}
+use Rattle.kern_file.specs.declared.places.TheConstants.{PUTS, PUTS_LOOP, ROOM}
 use Rattle.kern_file.specs.declared.a3e_puts.TheConstants.{NODES, LOOP_NODES}
 
 text_more : (n : ℕ) (s : KernelState) (at : ℕ) → 0 < n → write_text n s at ≡ reads_byte s at (λ b. if nat_eq b 0 then answered s 0 else Write (b % 2 ^ 8) (write_text (n - 1) s (following at)))
@@ -38,17 +39,18 @@ record Head (s : KernelState) (a n stop k : ℕ) (rest : Stay) (e : Run) : Type 
 module _ (s : KernelState) (a n stop : ℕ) (span : Span a n stop 1) where
   -- where a turn comes back to
   abbrev again : ℕ → Stay → List Access → Stay → Goal
-  again m rest told r g = (g.passed ≤ 64) × (64 ≤ 32 * earned rest told) × Repeats PUTS_LOOP (tree LOOP_NODES) m r g
+  again m rest told r g = (g.passed ≤ 64) × (64 ≤ 32 * earned rest told) × Repeats own most_nodes PUTS_LOOP (tree LOOP_NODES) m r g
 
-  repeats : (m k : ℕ) (rest : Stay) (e : Run) → k < m → Head s a n stop k rest e → Repeats PUTS_LOOP (tree LOOP_NODES) m rest e
+  repeats : (m k : ℕ) (rest : Stay) (e : Run) → k < m → Head s a n stop k rest e → Repeats own most_nodes PUTS_LOOP (tree LOOP_NODES) m rest e
   repeats zero k rest e lt h = absurd (omega arith)
   repeats (suc m) k rest e lt h =
-      let C : Calls = calls kernel_words shared in
+      let C : Calls = calls kernel_words (own ++ tested_there) in
+      let know : KnowsRoom ROOM C = knows_room ROOM tested_there in
       let x : ℕ = e.regs.r8 in
       let v : ℕ = byte s.memory (place x) in
       let on : Stay = write_text (h.fuel - 1) s (following x) in
       let next : ℕ → Stay = λ b. if nat_eq b 0 then answered s 0 else Write (b % 2 ^ 8) on in
-      (64, omega arith, start C knows_room.fair (tree LOOP_NODES) PUTS_LOOP (λ _. ⊥) (λ to f. Passes PUTS_LOOP (again m rest) rest 64 to f) (begun e.regs e.cop0 e.bytes) (
+      (64, omega arith, start C know.fair (tree LOOP_NODES) PUTS_LOOP (λ _. ⊥) (λ to f. Passes PUTS_LOOP (again m rest) rest 64 to f) (begun e.regs e.cop0 e.bytes) (
         λ eq.
             let b = done_bad a n stop 1 k x span h.cursor (eq ∙ h.r11) (λ z. absurd (omega (arith, z))) in
             let is : rest ≡ Touch 1 (bad_pointer s x) = h.is ∙ text_more h.fuel s x (omega (arith, b.some, h.some)) ∙ ap (λ y. Touch 1 (if y then next v else bad_pointer s x)) b.user in
@@ -71,26 +73,27 @@ module _ (s : KernelState) (a n stop : ℕ) (span : Span a n stop 1) where
             ),
       ))
 
-  starts : (rest : Stay) (e : Run) → Head s a n stop n rest e → (m : ℕ) × Repeats PUTS_LOOP (tree LOOP_NODES) m rest e
+  starts : (rest : Stay) (e : Run) → Head s a n stop n rest e → (m : ℕ) × Repeats own most_nodes PUTS_LOOP (tree LOOP_NODES) m rest e
   starts rest e h = (suc n, repeats (suc n) n rest e (omega arith) h)
 
 room_short : (a : ℕ) → room a + 1 ≤ longest
 unfolding longest
 room_short a = let h = room_few a in omega (arith, h)
 
-pub serves : ServesBy (call A3E) PUTS (tree NODES) PUTS_LOOP (tree LOOP_NODES)
+pub serves : ServesBy own most_nodes (call A3E) PUTS (tree NODES) PUTS_LOOP (tree LOOP_NODES)
 serves s d z m h =
-    let C : Calls = calls kernel_words shared in
+    let C : Calls = calls kernel_words (own ++ tested_there) in
+    let know : KnowsRoom ROOM C = knows_room ROOM tested_there in
     let a : ℕ = (registers_of s).r4 in
     let small : a < 2 ^ 32 = h.words 4 in
     let n : ℕ = room a + 1 in
     let sp = span_some a n 1 small (λ e. absurd (omega (arith, e))) (omega arith) in
     let few : n ≤ longest = room_short a in
-    let first : List Access → Stay → Goal = λ told rest g. (g.passed ≤ most_nodes) × ((j : ℕ) × Repeats PUTS_LOOP (tree LOOP_NODES) j rest g) in
-    start C knows_room.fair (tree NODES) PUTS (λ _. ⊥) (λ to e. Passes PUTS_LOOP first (puts s) most_nodes to e) (begun (called_with (registers_of s) d) z m) (
+    let first : List Access → Stay → Goal = λ told rest g. (g.passed ≤ most_nodes) × ((j : ℕ) × Repeats own most_nodes PUTS_LOOP (tree LOOP_NODES) j rest g) in
+    start C know.fair (tree NODES) PUTS (λ _. ⊥) (λ to e. Passes PUTS_LOOP first (puts s) most_nodes to e) (begun (called_with (registers_of s) d) z m) (
       λ none. passed PUTS_LOOP first (puts s) most_nodes _ _ refl refl (answers_now s most_nodes _ (puts s) (null a (answered s 0) (write_text longest s a) none) h.holds (omega arith)),
       λ some.
-          knows_room.room _ _ _ _ _ _ _ small (λ x y p up. enters PUTS_LOOP first (puts s) most_nodes _ refl refl (
+          know.room _ _ _ _ _ _ _ small (λ x y p up. enters PUTS_LOOP first (puts s) most_nodes _ refl refl (
             omega arith, starts s a n ((a + room a) % 2 ^ 32) sp (puts s) _ (record { fuel = longest; some = few; is = not_null a (answered s 0) (write_text longest s a) some; holds = h.holds; r11 = refl; r26 = refl; cursor = record { low = omega arith; high = sp.low; count = refl } }),
           )),
     )

@@ -5,13 +5,15 @@ ghost use Rattle.psx_flow.specs.Spaced.{is_spaced};
 ghost use Rattle.abs_kernel.specs.declared.calls.CallId.TheVariants.{A3E};
 ghost use Rattle.abs_kernel.specs.Calls.{call};
 ghost use Rattle.kern_stay.specs.Shared.{tree};
+ghost use Rattle.kern_stay.specs.Doors.{most_nodes};
 ghost use Rattle.kern_stay.specs.Loops.{ServesBy};
+ghost use Rattle.kern_file.specs.Own.{own};
 ghost use Rattle.kern_file.specs.declared.a3e_puts.TheConstants.{NODES, LOOP_NODES};
 ghost use Rattle.kern_file.specs.declared.places.TheConstants.{PUTS, PUTS_LOOP};
 
 use crate::places;
-use crate::places::PUTS_LOOP;
-use kern_stay::places::{BAD_POINTER, LEAVE, ROOM};
+use crate::places::{PUTS_LOOP, ROOM};
+use kern_stay::places::{BAD_POINTER, LEAVE};
 use psx_flow::{Node, Test, op, register};
 
 /// r4 is the text. r8 is the address of the byte that comes, r11 where user memory ends, and r26 is for the console's port.
@@ -50,7 +52,7 @@ pub fn puts() -> (&'static [Node], &'static [Node])
     ensures turns_well { IsTrue (is_well result.1.now) }
     ensures spaced { IsTrue (is_spaced result.0.now) }
     ensures turns_spaced { IsTrue (is_spaced result.1.now) }
-    ensures serves { ServesBy (call A3E) PUTS (tree result.0.now) PUTS_LOOP (tree result.1.now) }
+    ensures serves { ServesBy own most_nodes (call A3E) PUTS (tree result.0.now) PUTS_LOOP (tree result.1.now) }
 {
     (&NODES, &LOOP_NODES)
 }

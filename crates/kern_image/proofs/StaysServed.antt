@@ -1,5 +1,5 @@
 -- Each call is served from its routine on, and each entry from the vector on.
-use Rattle.std.proofs.Common.{◌≡◌, ℕ, suc, ◌+◌, ◌-◌, ◌*◌, ◌%◌, ◌≤◌, List, [], ◌∷◌, false, refl, sym, ap, ◌∙◌, subst, arith}
+use Rattle.std.proofs.Common.{◌≡◌, ℕ, suc, ◌+◌, ◌-◌, ◌*◌, ◌%◌, ◌≤◌, List, [], ◌∷◌, ◌++◌, false, refl, sym, ap, ◌∙◌, subst, arith}
 use Rattle.psx_base.specs.declared.stop.Stop.{Stop}
 use Rattle.psx_base.specs.declared.ports.TheConstants.{HALT_A, HALT_B, HALT_C}
 use Rattle.psx_base.specs.Memory.{Memory}
@@ -9,7 +9,7 @@ use Rattle.psx_cpu.specs.Processor.{Core, Cop0}
 use Rattle.psx_flow.specs.Kernel.{kernel_words}
 use Rattle.psx_flow.specs.Meets.{Meets, calls}
 use Rattle.psx_flow.specs.Plain.{kernel_core}
-use Rattle.psx_flow.specs.Reaches.{IsPlaced, Keeps}
+use Rattle.psx_flow.specs.Reaches.{IsPlaced, ArePlaced, Keeps}
 use Rattle.psx_flow.specs.Run.{Run, Access, state_at}
 use Rattle.psx_flow.specs.Told.{ports}
 use Rattle.psx_flow.specs.Tree.{Tree}
@@ -17,7 +17,7 @@ use Rattle.kern_layout.specs.Stands.{Side, SameUser, Stands, HoldsRom, user_sr}
 use Rattle.abs_kernel.specs.Answered.{registers_of}
 use Rattle.abs_kernel.specs.Stay.{Stay}
 use Rattle.abs_run.specs.Serves.{Runs}
-use Rattle.kern_stay.specs.Shared.{shared}
+use Rattle.kern_stay.specs.Shared.{tested_there}
 use Rattle.kern_stay.specs.Follows.{after, Follows, given}
 use Rattle.kern_stay.specs.Doors.{Arrives, Ends, worth_of, Through, called_with, begun, most_nodes, IsServed}
 use Rattle.kern_stay.proofs.Telling.{after_ports, follows_ports}
@@ -34,16 +34,21 @@ use Rattle.kern_image.proofs.StaysStage.{aimed_shows, going_shows, bare, weight,
 use Rattle.kern_image.proofs.StaysStand.{back, spared_user}
 use Rattle.kern_image.proofs.StaysDoors.{at_core, InDoor, IsValid, in_door, ends_door}
 
--- a state behind a stage passes no more nodes than its stay touches
-low_told : (stay : Stay) (told : List Access) (to : ℕ) (e : Run) → Ends (worth_of told) (after stay told) most_nodes to e → e.passed ≤ 2048 + 32 * weight stay
-low_told stay [] to e h = let r = ends_door 32 stay most_nodes to e h in omega (arith, r.0)
-low_told stay (x ∷ q) to e h = let r = ends_door 0 (after stay (x ∷ q)) most_nodes to e h in omega (arith, r.0)
+-- a state behind a stage passes no more nodes than its bound, and its stay's touches
+low_told : (flat : ℕ) (stay : Stay) (told : List Access) (to : ℕ) (e : Run) → Ends (worth_of told) (after stay told) flat to e → e.passed ≤ flat + 32 * weight stay
+low_told flat stay [] to e h = let r = ends_door 32 stay flat to e h in omega (arith, r.0)
+low_told flat stay (x ∷ q) to e h = let r = ends_door 0 (after stay (x ∷ q)) flat to e h in omega (arith, r.0)
 
-door_told : (stay : Stay) (told : List Access) (to : ℕ) (e : Run) → Ends (worth_of told) (after stay told) most_nodes to e → InDoor (bare (after stay told)) to e
-door_told stay told to e h = (ends_door (worth_of told) (after stay told) most_nodes to e h).1
+door_told : (flat : ℕ) (stay : Stay) (told : List Access) (to : ℕ) (e : Run) → Ends (worth_of told) (after stay told) flat to e → InDoor (bare (after stay told)) to e
+door_told flat stay told to e h = (ends_door (worth_of told) (after stay told) flat to e h).1
+
+-- listings that stand, and others
+pub both_placed : (m : Memory) (ls rs : List (ℕ × Tree)) → ArePlaced kernel_words m ls → ArePlaced kernel_words m rs → ArePlaced kernel_words m (ls ++ rs)
+both_placed m [] rs h g = g
+both_placed m (l ∷ ls) rs h g = (h.0, both_placed m ls rs h.1 g)
 
 module _ (rom : List ℕ) (m : Memory) (words : HoldsEntry m) (code : HoldsRom m rom) where
-  module _ (a b c : ℕ) (stay : Stay) (valid : IsValid stay) (T : Tree) (at : ℕ) (placed : IsPlaced kernel_words m at T) (regs : Registers) (z : Cop0) (off : z.sr % 2 ≡ 0) (rest : ℕ) (some : 283 ≤ rest) where
+  module _ (a b c : ℕ) (stay : Stay) (valid : IsValid stay) (T : Tree) (at : ℕ) (placed : IsPlaced kernel_words m at T) (regs : Registers) (z : Cop0) (off : z.sr % 2 ≡ 0) (own : List (ℕ × Tree)) (there : ArePlaced kernel_words m own) (flat rest : ℕ) (some : 283 ≤ rest) where
     abbrev P : ℕ → Aim
     P n k q = Shows rom (bare stay) a b c (rest + n) k q
 
@@ -56,12 +61,12 @@ module _ (rom : List ℕ) (m : Memory) (words : HoldsEntry m) (code : HoldsRom m
     left_is : (told q : List Access) → ports q ≡ told → bare (after stay told) ≡ bare (after (bare stay) q)
     left_is told q e = ap (λ x. bare (after stay x)) (sym e) ∙ ap bare (sym (after_ports stay q)) ∙ sym (bare_after stay q)
 
-    behind : (to : ℕ) (e : Run) → Keeps kernel_words m e → Through stay most_nodes to e → (n : ℕ) → P n (kernel_core (state_at e to)) e.seen
+    behind : (to : ℕ) (e : Run) → Keeps kernel_words m e → Through stay flat to e → (n : ℕ) → P n (kernel_core (state_at e to)) e.seen
     behind to e ke t n =
         let A : ℕ = given HALT_A a e.seen in let B : ℕ = given HALT_B b e.seen in let C : ℕ = given HALT_C c e.seen in
         let k : Core = kernel_core (state_at e to) in
         let rest_stay : Stay = bare (after stay t.told) in
-        let r = in_door rom A B C m words code rest_stay (bare_ends _ _ (after stay t.told) (after_ends _ _ stay t.told valid)) to e ke (door_told stay t.told to e t.ends) in
+        let r = in_door rom A B C m words code rest_stay (bare_ends _ _ (after stay t.told) (after_ends _ _ stay t.told valid)) to e ke (door_told flat stay t.told to e t.ends) in
         let more : 283 + (rest + n - 283) ≡ rest + n = omega arith in
         let r2 : Runs rom rest_stay (rest + n) (at_core rom A B C k) = subst (λ j. Runs rom rest_stay j (at_core rom A B C k)) more (runs_more rom (rest + n - 283) rest_stay 283 (at_core rom A B C k) r) in
         going_shows rom (bare stay) a b c (rest + n) k e.seen (
@@ -69,18 +74,18 @@ module _ (rom : List ℕ) (m : Memory) (words : HoldsEntry m) (code : HoldsRom m
           from_bare rom (after (bare stay) e.seen) (rest + n) (at_core rom A B C k) (subst (λ y. Runs rom y (rest + n) (at_core rom A B C k)) (left_is t.told e.seen t.ports) r2),
         )
 
-    pub stage : Meets kernel_words (calls kernel_words shared) T at (λ _. ⊥) (λ to e. Through stay most_nodes to e) first → Runs rom stay (rest + 8192) (at_core rom a b c (kernel_core (state_at first at)))
+    pub stage : Meets kernel_words (calls kernel_words (own ++ tested_there)) T at (λ _. ⊥) (λ to e. Through stay flat to e) first → Runs rom stay (rest + 4 * flat) (at_core rom a b c (kernel_core (state_at first at)))
     stage h =
-        let most : ℕ = 2048 + 32 * weight stay in
+        let most : ℕ = flat + 32 * weight stay in
         let k : Core = kernel_core (state_at first at) in
-        let w = walk_placed kernel_words m P backs most shared (all_placed m words).shared T at (λ _. ⊥) (λ to e. Through stay most_nodes to e) (4 * most) first (omega arith) placed (record { bytes = λ x e. refl; masked = off }) (record {
+        let w = walk_placed kernel_words m P backs most (own ++ tested_there) (both_placed m own tested_there there (all_placed m words).tested) T at (λ _. ⊥) (λ to e. Through stay flat to e) (4 * most) first (omega arith) placed (record { bytes = λ x e. refl; masked = off }) (record {
           low = λ e x. absurd x;
-          low_jump = λ to e t. low_told stay t.told to e t.ends;
+          low_jump = λ to e t. low_told flat stay t.told to e t.ends;
           here = λ e ke x. absurd x;
           jump = λ to e ke t n few. behind to e ke t n;
         }) h (4 * most) (omega arith) in
-        let same : rest + 4 * most ≡ rest + 8192 + 128 * weight stay = omega arith in
-        runs_bare rom stay (rest + 8192) (at_core rom a b c k) (subst (λ j. Runs rom (bare stay) j (at_core rom a b c k)) same w.1)
+        let same : rest + 4 * most ≡ rest + 4 * flat + 128 * weight stay = omega arith in
+        runs_bare rom stay (rest + 4 * flat) (at_core rom a b c k) (subst (λ j. Runs rom (bare stay) j (at_core rom a b c k)) same w.1)
 
   -- a call is served where its routine is entered
   abbrev pub Serving : (KernelState → Stay) → ℕ → Type 0
@@ -88,8 +93,8 @@ module _ (rom : List ℕ) (m : Memory) (words : HoldsEntry m) (code : HoldsRom m
       (a b c : ℕ) (t : KernelState) (regs : Registers) (z : Cop0) → IsValid (stay t) → Arrives t m → z.sr % 2 ≡ 0
       → Runs rom (stay t) 19000 (at_core rom a b c (kernel_at (called_with (registers_of t) regs) z m at))
 
-  pub by_listing : (stay : KernelState → Stay) (at : ℕ) → IsServed m stay at → Serving stay at
-  by_listing stay at s a b c t regs z valid h off = stage a b c (stay t) valid s.listing at s.placed (called_with (registers_of t) regs) z off 10808 (omega arith) (s.serves t regs z m h)
+  pub by_listing : (stay : KernelState → Stay) (at : ℕ) → IsServed m most_nodes stay at → Serving stay at
+  by_listing stay at s a b c t regs z valid h off = stage a b c (stay t) valid s.listing at s.placed (called_with (registers_of t) regs) z off s.own s.own_placed 2048 10808 (omega arith) (s.serves t regs z m h)
 
   pub by_own : (stay : KernelState → Stay) (at : ℕ) → OwnCalls at stay → Serving stay at
   by_own stay at own a b c t regs z valid h off =

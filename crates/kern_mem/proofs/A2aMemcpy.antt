@@ -1,5 +1,5 @@
 -- memcpy meets its stay.
-use Rattle.psx_flow.proofs.Kit.{◌≡◌, ℕ, suc, ◌+◌, ◌-◌, ◌%◌, ◌^◌, ◌<◌, ◌≤◌, refl, sym, ap, ◌∙◌, subst, arith, Memory, byte, put_byte, Run, Goal, Calls, calls, Tree, Stop, Do, When, Go, Loop, place, Meets, Anew, kernel_words, start, while, Turn, Sym, ended}
+use Rattle.psx_flow.proofs.Kit.{◌≡◌, ℕ, suc, ◌+◌, ◌-◌, ◌%◌, ◌^◌, ◌<◌, ◌≤◌, ◌++◌, refl, sym, ap, ◌∙◌, subst, arith, Memory, byte, put_byte, Run, Goal, Calls, calls, Tree, Stop, Do, When, Go, Loop, place, Meets, Anew, kernel_words, start, while, Turn, Sym, ended}
 use Rattle.std.proofs.Common.{zero, [], eq-eqb, ne_eqb}
 use Rattle.std.specs.Prelude.{nat_eq, nat_lt, ◌||◌, if◌then◌else◌}
 use Rattle.psx_ins.specs.declared.reg.Reg.{Reg}
@@ -15,7 +15,7 @@ use Rattle.abs_kernel.specs.Answered.{registers_of, answered}
 use Rattle.abs_kernel.specs.UserBytes.{reads_byte, writes_byte, bad_pointer, following, count_of, with_byte}
 use Rattle.abs_kernel.specs.Memcpy.{copy_bytes, memcpy}
 use Rattle.kern_stay.specs.Room.{room}
-use Rattle.kern_stay.specs.Shared.{tree, shared}
+use Rattle.kern_stay.specs.Shared.{tree, tested_there}
 use Rattle.kern_stay.specs.declared.places.TheConstants.{LEAVE, BAD_POINTER}
 use Rattle.kern_stay.specs.Doors.{Holds, Through, Serves, called_with, begun, most_nodes}
 use Rattle.kern_stay.proofs.RoomGiven.{KnowsRoom, knows_room, true_then, false_then}
@@ -23,7 +23,8 @@ use Rattle.kern_stay.proofs.Holding.{holds_byte}
 use Rattle.kern_stay.proofs.Ending.{no_count, a_count, through, answers, refuses, Left, left_all, left_is, left_read, left_unread, left_written, left_unwritten, user_byte}
 use Rattle.kern_stay.proofs.Cursor.{null, not_null}
 use Rattle.kern_stay.proofs.TwoCursors.{Pair, pair_all, pair_first, pair_other, Cursors, both_come, both_done, first_bad, other_bad}
-use Rattle.kern_mem.specs.declared.places.TheConstants.{MEMCPY}
+use Rattle.kern_mem.specs.Own.{own}
+use Rattle.kern_mem.specs.declared.places.TheConstants.{MEMCPY, ROOM}
 use Rattle.kern_mem.specs.declared.a2a_memcpy.TheConstants.{NODES}
 
 abbrev r : ℕ → Reg
@@ -65,7 +66,7 @@ record Head (stay : Stay) (s : KernelState) (a b n m flag second k : ℕ) (e : R
   r13 : e.regs.r13 ≡ second
   cursors : Cursors a b n m k e.regs.r8 e.regs.r9
 
-module _ (C : Calls) (know : KnowsRoom C) (stay : Stay) (s : KernelState) (valid : Valid s) (a b n m flag second : ℕ) (pair : Pair a b n m flag second) where
+module _ (C : Calls) (know : KnowsRoom ROOM C) (stay : Stay) (s : KernelState) (valid : Valid s) (a b n m flag second : ℕ) (pair : Pair a b n m flag second) where
   abbrev G : ℕ → Goal
   G to e = Through stay most_nodes to e
 
@@ -126,9 +127,10 @@ null_first p q x y e = ap (λ b. if b || nat_eq q 0 then x else y) (eq-eqb p 0 e
 null_other : (p q : ℕ) (x y : Stay) → (p ≡ 0 → ⊥) → q ≡ 0 → (if nat_eq p 0 || nat_eq q 0 then x else y) ≡ x
 null_other p q x y ne e = ap (λ b. if b || nat_eq q 0 then x else y) (ne_eqb p 0 ne) ∙ null q x y e
 
-pub serves : Serves memcpy MEMCPY (tree NODES)
+pub serves : Serves own most_nodes memcpy MEMCPY (tree NODES)
 serves s d z m h =
-    let C : Calls = calls kernel_words shared in
+    let C : Calls = calls kernel_words (own ++ tested_there) in
+    let know : KnowsRoom ROOM C = knows_room ROOM tested_there in
     let b : ℕ = (registers_of s).r4 in
     let a : ℕ = (registers_of s).r5 in
     let n : ℕ = (registers_of s).r6 in
@@ -136,7 +138,7 @@ serves s d z m h =
     let small_a : a < 2 ^ 32 = h.words 5 in
     let second : ℕ = truth (nat_lt (room b) (room a)) in
     let go : Stay = copy_bytes (count_of n) s b a (done b) in
-    start C knows_room.fair (tree NODES) MEMCPY (λ _. ⊥) (λ to e. Through (memcpy s) most_nodes to e) (begun (called_with (registers_of s) d) z m) (
+    start C know.fair (tree NODES) MEMCPY (λ _. ⊥) (λ to e. Through (memcpy s) most_nodes to e) (begun (called_with (registers_of s) d) z m) (
       λ none. through (memcpy s) most_nodes _ _ refl (answers most_nodes s _ (memcpy s) (null_first b a (answered s 0) go none) h.holds (omega arith)),
       λ nd. (
         λ none. through (memcpy s) most_nodes _ _ refl (answers most_nodes s _ (memcpy s) (null_other b a (answered s 0) go nd none) h.holds (omega arith)),
@@ -144,25 +146,25 @@ serves s d z m h =
           λ few. through (memcpy s) most_nodes _ _ refl (answers most_nodes s _ (memcpy s) (begins s 0 nd ns (no_count n few)) h.holds (omega arith)),
           λ pos.
               let l : Left (memcpy s) (copy_bytes n s b a (done b)) most_nodes = left_is (memcpy s) (memcpy s) (copy_bytes n s b a (done b)) most_nodes (begins s n nd ns (a_count n pos.1)) (left_all (memcpy s)) in
-              knows_room.room _ _ _ _ _ _ _ small_b (λ x y p up. knows_room.room _ _ _ _ _ _ _ small_a (λ x y p up. (
+              know.room _ _ _ _ _ _ _ small_b (λ x y p up. know.room _ _ _ _ _ _ _ small_a (λ x y p up. (
                 λ nz.
                     let flag : ℕ = truth (nat_lt (room b) n) in
                     let less = true_then (room b) (room a) nz in (
-                      λ z. loops C knows_room (memcpy s) s h.valid a b n n flag second (pair_all a b n flag second small_a small_b z (let f = false_then (room b) n z in omega (arith, f, less)) (false_then (room b) n z)) _
+                      λ z. loops C know (memcpy s) s h.valid a b n n flag second (pair_all a b n flag second small_a small_b z (let f = false_then (room b) n z in omega (arith, f, less)) (false_then (room b) n z)) _
                       record { memory = s.memory; holds = h.holds; most = most_nodes; left = l; within = omega arith; quiet = refl; r4 = refl; r10 = refl; r11 = refl; r13 = refl; cursors = record { first = refl; other = refl; most = omega arith; room = omega arith } },
                       λ ne.
                           let p = pair_other a b n flag second small_a small_b ne nz (true_then (room b) n ne) less in
-                          loops C knows_room (memcpy s) s h.valid a b n (room b) flag second p _
+                          loops C know (memcpy s) s h.valid a b n (room b) flag second p _
                           record { memory = s.memory; holds = h.holds; most = most_nodes; left = l; within = omega arith; quiet = refl; r4 = refl; r10 = refl; r11 = refl; r13 = refl; cursors = record { first = refl; other = refl; most = omega arith; room = omega arith } },
                     ),
                 λ z.
                     let flag : ℕ = truth (nat_lt (room a) n) in
                     let le = false_then (room b) (room a) z in (
-                      λ q. loops C knows_room (memcpy s) s h.valid a b n n flag second (pair_all a b n flag second small_a small_b q (false_then (room a) n q) (let f = false_then (room a) n q in omega (arith, f, le))) _
+                      λ q. loops C know (memcpy s) s h.valid a b n n flag second (pair_all a b n flag second small_a small_b q (false_then (room a) n q) (let f = false_then (room a) n q in omega (arith, f, le))) _
                       record { memory = s.memory; holds = h.holds; most = most_nodes; left = l; within = omega arith; quiet = refl; r4 = refl; r10 = refl; r11 = refl; r13 = refl; cursors = record { first = refl; other = refl; most = omega arith; room = omega arith } },
                       λ ne.
                           let p = pair_first a b n flag second small_a small_b ne z (true_then (room a) n ne) le in
-                          loops C knows_room (memcpy s) s h.valid a b n (room a) flag second p _
+                          loops C know (memcpy s) s h.valid a b n (room a) flag second p _
                           record { memory = s.memory; holds = h.holds; most = most_nodes; left = l; within = omega arith; quiet = refl; r4 = refl; r10 = refl; r11 = refl; r13 = refl; cursors = record { first = refl; other = refl; most = omega arith; room = omega arith } },
                     ),
               ))),

@@ -1,5 +1,5 @@
 -- memset meets its stay.
-use Rattle.psx_flow.proofs.Kit.{◌≡◌, ℕ, suc, ◌+◌, ◌-◌, ◌%◌, ◌^◌, ◌<◌, ◌≤◌, refl, sym, ap, ◌∙◌, subst, arith, Memory, put_byte, Run, Goal, Calls, calls, Tree, Stop, Do, When, Go, place, kernel_words, start, while, Turn, Sym, ended}
+use Rattle.psx_flow.proofs.Kit.{◌≡◌, ℕ, suc, ◌+◌, ◌-◌, ◌%◌, ◌^◌, ◌<◌, ◌≤◌, ◌++◌, refl, sym, ap, ◌∙◌, subst, arith, Memory, put_byte, Run, Goal, Calls, calls, Tree, Stop, Do, When, Go, place, kernel_words, start, while, Turn, Sym, ended}
 use Rattle.std.proofs.Common.{zero, []}
 use Rattle.std.specs.Prelude.{nat_lt}
 use Rattle.psx_ins.specs.declared.reg.Reg.{Reg}
@@ -17,14 +17,15 @@ use Rattle.abs_kernel.specs.Memset.{fill, memset}
 use Rattle.abs_kernel.specs.declared.calls.CallId.TheVariants.{A2B}
 use Rattle.abs_kernel.specs.Calls.{call}
 use Rattle.kern_stay.specs.Room.{room}
-use Rattle.kern_stay.specs.Shared.{tree, shared}
+use Rattle.kern_stay.specs.Shared.{tree, tested_there}
 use Rattle.kern_stay.specs.Doors.{Holds, Through, Serves, called_with, begun, most_nodes}
 use Rattle.kern_stay.proofs.RoomGiven.{KnowsRoom, knows_room, true_then, false_then}
 use Rattle.kern_stay.proofs.RoomLeft.{Span, span_all, span_some}
 use Rattle.kern_stay.proofs.Holding.{holds_byte}
 use Rattle.kern_stay.proofs.Ending.{no_count, a_count, through, answers, refuses, Left, left_all, left_is, left_written, left_unwritten}
 use Rattle.kern_stay.proofs.Cursor.{Cursor, coming, done_all, done_bad, null, not_null}
-use Rattle.kern_mem.specs.declared.places.TheConstants.{MEMSET}
+use Rattle.kern_mem.specs.Own.{own}
+use Rattle.kern_mem.specs.declared.places.TheConstants.{MEMSET, ROOM}
 use Rattle.kern_mem.specs.declared.a2b_memset.TheConstants.{NODES}
 
 abbrev r : ℕ → Reg
@@ -57,7 +58,7 @@ record Head (stay : Stay) (s : KernelState) (a n v b stop flag k : ℕ) (e : Run
   memory : Memory
   holds : Holds (now s memory) e.bytes
   most : ℕ
-  left : Left stay (fill k (now s memory) e.regs.r8 v (done a)) most
+  left : Left most_nodes stay (fill k (now s memory) e.regs.r8 v (done a)) most
   within : e.passed + 10 ≤ most
   quiet : ports e.seen ≡ []
   r4 : e.regs.r4 ≡ a
@@ -66,7 +67,7 @@ record Head (stay : Stay) (s : KernelState) (a n v b stop flag k : ℕ) (e : Run
   r11 : e.regs.r11 ≡ stop
   cursor : Cursor a n stop k e.regs.r8
 
-module _ (C : Calls) (know : KnowsRoom C) (stay : Stay) (s : KernelState) (valid : Valid s) (a n b stop flag : ℕ) (span : Span a n stop flag) where
+module _ (C : Calls) (know : KnowsRoom ROOM C) (stay : Stay) (s : KernelState) (valid : Valid s) (a n b stop flag : ℕ) (span : Span a n stop flag) where
   abbrev G : ℕ → Goal
   G to e = Through stay most_nodes to e
 
@@ -104,28 +105,29 @@ module _ (C : Calls) (know : KnowsRoom C) (stay : Stay) (s : KernelState) (valid
 begins : (s : KernelState) (n : ℕ) → ((registers_of s).r4 ≡ 0 → ⊥) → count_of (registers_of s).r6 ≡ n → memset s ≡ fill n s (registers_of s).r4 ((registers_of s).r5 % 2 ^ 8) (done (registers_of s).r4)
 begins s n ne e = let r = registers_of s in not_null r.r4 (answered s 0) (fill (count_of r.r6) s r.r4 (r.r5 % 2 ^ 8) (done r.r4)) ne ∙ ap (λ n. fill n s r.r4 (r.r5 % 2 ^ 8) (done r.r4)) e
 
-pub serves : Serves (call A2B) MEMSET (tree NODES)
+pub serves : Serves own most_nodes (call A2B) MEMSET (tree NODES)
 serves s d z m h =
-    let C : Calls = calls kernel_words shared in
+    let C : Calls = calls kernel_words (own ++ tested_there) in
+    let know : KnowsRoom ROOM C = knows_room ROOM tested_there in
     let a : ℕ = (registers_of s).r4 in
     let b : ℕ = (registers_of s).r5 in
     let n : ℕ = (registers_of s).r6 in
     let small : a < 2 ^ 32 = h.words 4 in
     let flag : ℕ = truth (nat_lt (room a) n) in
-    start C knows_room.fair (tree NODES) MEMSET (λ _. ⊥) (λ to e. Through (memset s) most_nodes to e) (begun (called_with (registers_of s) d) z m) (
+    start C know.fair (tree NODES) MEMSET (λ _. ⊥) (λ to e. Through (memset s) most_nodes to e) (begun (called_with (registers_of s) d) z m) (
       λ none. through (memset s) most_nodes _ _ refl (answers most_nodes s _ (memset s) (null (registers_of s).r4 (answered s 0) _ none) h.holds (omega arith)),
       λ some. (
         λ few. through (memset s) most_nodes _ _ refl (answers most_nodes s _ (memset s) (begins s 0 some (no_count n few)) h.holds (omega arith)),
         λ pos.
-            let l : Left (memset s) (fill n s a (b % 2 ^ 8) (done a)) most_nodes = left_is (memset s) (memset s) (fill n s a (b % 2 ^ 8) (done a)) most_nodes (begins s n some (a_count n pos.1)) (left_all (memset s)) in
-            knows_room.room _ _ _ _ _ _ _ small (λ x y p up. (
+            let l : Left most_nodes (memset s) (fill n s a (b % 2 ^ 8) (done a)) most_nodes = left_is (memset s) (memset s) (fill n s a (b % 2 ^ 8) (done a)) most_nodes (begins s n some (a_count n pos.1)) (left_all (memset s)) in
+            know.room _ _ _ _ _ _ _ small (λ x y p up. (
               λ q.
                   let sp = span_all a n flag small q (false_then (room a) n q) in
-                  while C knows_room.fair (Differ (r 8) (r 11)) turn_tree 0 _ _ ℕ (λ i. i) (Head (memset s) s a n (b % 2 ^ 8) b ((a + n) % 2 ^ 32) flag) (turn C knows_room (memset s) s h.valid a n b ((a + n) % 2 ^ 32) flag sp) n _
+                  while C know.fair (Differ (r 8) (r 11)) turn_tree 0 _ _ ℕ (λ i. i) (Head (memset s) s a n (b % 2 ^ 8) b ((a + n) % 2 ^ 32) flag) (turn C know (memset s) s h.valid a n b ((a + n) % 2 ^ 32) flag sp) n _
                   record { memory = s.memory; holds = h.holds; most = most_nodes; left = l; within = omega arith; quiet = refl; r4 = refl; r5 = refl; r10 = refl; r11 = refl; cursor = record { low = omega arith; high = sp.low; count = refl } },
               λ ne.
                   let sp = span_some a n flag small ne (true_then (room a) n ne) in
-                  while C knows_room.fair (Differ (r 8) (r 11)) turn_tree 0 _ _ ℕ (λ i. i) (Head (memset s) s a n (b % 2 ^ 8) b ((a + room a) % 2 ^ 32) flag) (turn C knows_room (memset s) s h.valid a n b ((a + room a) % 2 ^ 32) flag sp) n _
+                  while C know.fair (Differ (r 8) (r 11)) turn_tree 0 _ _ ℕ (λ i. i) (Head (memset s) s a n (b % 2 ^ 8) b ((a + room a) % 2 ^ 32) flag) (turn C know (memset s) s h.valid a n b ((a + room a) % 2 ^ 32) flag sp) n _
                   record { memory = s.memory; holds = h.holds; most = most_nodes; left = l; within = omega arith; quiet = refl; r4 = refl; r5 = refl; r10 = refl; r11 = refl; cursor = record { low = omega arith; high = sp.low; count = refl } },
             )),
       ),

@@ -1,5 +1,5 @@
 -- memchr meets its stay.
-use Rattle.psx_flow.proofs.Kit.{◌≡◌, ℕ, suc, ◌+◌, ◌-◌, ◌*◌, ◌%◌, ◌^◌, ◌<◌, ◌≤◌, refl, sym, ap, ◌∙◌, subst, arith, Memory, byte, Run, Goal, Calls, calls, Tree, Stop, Do, When, Go, place, kernel_words, start, while, Turn, Sym, ended}
+use Rattle.psx_flow.proofs.Kit.{◌≡◌, ℕ, suc, ◌+◌, ◌-◌, ◌*◌, ◌%◌, ◌^◌, ◌<◌, ◌≤◌, ◌++◌, refl, sym, ap, ◌∙◌, subst, arith, Memory, byte, Run, Goal, Calls, calls, Tree, Stop, Do, When, Go, place, kernel_words, start, while, Turn, Sym, ended}
 use Rattle.std.proofs.Common.{zero, ◌/◌, [], eq-eqb, ne_eqb}
 use Rattle.std.specs.Prelude.{nat_eq, nat_lt, if◌then◌else◌}
 use Rattle.psx_ins.specs.declared.reg.Reg.{Reg}
@@ -15,13 +15,14 @@ use Rattle.abs_kernel.specs.Memchr.{find_byte, memchr}
 use Rattle.abs_kernel.specs.declared.calls.CallId.TheVariants.{A2E}
 use Rattle.abs_kernel.specs.Calls.{call}
 use Rattle.kern_stay.specs.Room.{room}
-use Rattle.kern_stay.specs.Shared.{tree, shared}
+use Rattle.kern_stay.specs.Shared.{tree, tested_there}
 use Rattle.kern_stay.specs.Doors.{Holds, Through, Serves, called_with, begun, most_nodes}
 use Rattle.kern_stay.proofs.RoomGiven.{KnowsRoom, knows_room, true_then, false_then}
 use Rattle.kern_stay.proofs.RoomLeft.{Span, span_all, span_some}
 use Rattle.kern_stay.proofs.Ending.{no_count, a_count, low_byte, through, answers, refuses, Left, left_all, left_is, left_read, left_unread, user_byte}
 use Rattle.kern_stay.proofs.Cursor.{Cursor, coming, done_all, done_bad, null, not_null}
-use Rattle.kern_mem.specs.declared.places.TheConstants.{MEMCHR}
+use Rattle.kern_mem.specs.Own.{own}
+use Rattle.kern_mem.specs.declared.places.TheConstants.{MEMCHR, ROOM}
 use Rattle.kern_mem.specs.declared.a2e_memchr.TheConstants.{NODES}
 
 abbrev r : ℕ → Reg
@@ -44,7 +45,7 @@ find_none k s at c e = ap (λ n. find_byte n s at c) e
 -- at the loop's head, with k bytes to come
 record Head (stay : Stay) (s : KernelState) (m : Memory) (a n c stop flag k : ℕ) (e : Run) : Type 0 where
   most : ℕ
-  left : Left stay (find_byte k s e.regs.r8 c) most
+  left : Left most_nodes stay (find_byte k s e.regs.r8 c) most
   within : e.passed + 10 ≤ most
   bytes : e.bytes ≡ m
   quiet : ports e.seen ≡ []
@@ -53,7 +54,7 @@ record Head (stay : Stay) (s : KernelState) (m : Memory) (a n c stop flag k : �
   r11 : e.regs.r11 ≡ stop
   cursor : Cursor a n stop k e.regs.r8
 
-module _ (C : Calls) (know : KnowsRoom C) (stay : Stay) (s : KernelState) (m : Memory) (holds : Holds s m) (a n c stop flag : ℕ) (span : Span a n stop flag) where
+module _ (C : Calls) (know : KnowsRoom ROOM C) (stay : Stay) (s : KernelState) (m : Memory) (holds : Holds s m) (a n c stop flag : ℕ) (span : Span a n stop flag) where
   abbrev G : ℕ → Goal
   G to e = Through stay most_nodes to e
 
@@ -97,29 +98,30 @@ begins s n ne e =
     let r = registers_of s in
     not_null r.r4 (answered s 0) (find_byte (count_of r.r6) s r.r4 (r.r5 % 2 ^ 8)) ne ∙ (λ i. find_byte (e i) s r.r4 (sym (low_byte r.r5) i))
 
-pub serves : Serves (call A2E) MEMCHR (tree NODES)
+pub serves : Serves own most_nodes (call A2E) MEMCHR (tree NODES)
 serves s d z m h =
-    let C : Calls = calls kernel_words shared in
+    let C : Calls = calls kernel_words (own ++ tested_there) in
+    let know : KnowsRoom ROOM C = knows_room ROOM tested_there in
     let a : ℕ = (registers_of s).r4 in
     let b : ℕ = (registers_of s).r5 in
     let n : ℕ = (registers_of s).r6 in
     let c : ℕ = b * 2 ^ 24 % 2 ^ 32 / 2 ^ 24 in
     let small : a < 2 ^ 32 = h.words 4 in
     let flag : ℕ = truth (nat_lt (room a) n) in
-    start C knows_room.fair (tree NODES) MEMCHR (λ _. ⊥) (λ to e. Through (memchr s) most_nodes to e) (begun (called_with (registers_of s) d) z m) (
+    start C know.fair (tree NODES) MEMCHR (λ _. ⊥) (λ to e. Through (memchr s) most_nodes to e) (begun (called_with (registers_of s) d) z m) (
       λ none. through (memchr s) most_nodes _ _ refl (answers most_nodes s _ (memchr s) (null (registers_of s).r4 (answered s 0) _ none) h.holds (omega arith)),
       λ some. (
         λ few. through (memchr s) most_nodes _ _ refl (answers most_nodes s _ (memchr s) (begins s 0 some (no_count n few)) h.holds (omega arith)),
         λ pos.
-            let l : Left (memchr s) (find_byte n s a c) most_nodes = left_is (memchr s) (memchr s) (find_byte n s a c) most_nodes (begins s n some (a_count n pos.1)) (left_all (memchr s)) in
-            knows_room.room _ _ _ _ _ _ _ small (λ x y p up. (
+            let l : Left most_nodes (memchr s) (find_byte n s a c) most_nodes = left_is (memchr s) (memchr s) (find_byte n s a c) most_nodes (begins s n some (a_count n pos.1)) (left_all (memchr s)) in
+            know.room _ _ _ _ _ _ _ small (λ x y p up. (
               λ q.
                   let sp = span_all a n flag small q (false_then (room a) n q) in
-                  while C knows_room.fair (Differ (r 8) (r 11)) turn_tree 0 _ _ ℕ (λ i. i) (Head (memchr s) s m a n c ((a + n) % 2 ^ 32) flag) (turn C knows_room (memchr s) s m h.holds a n c ((a + n) % 2 ^ 32) flag sp) n _
+                  while C know.fair (Differ (r 8) (r 11)) turn_tree 0 _ _ ℕ (λ i. i) (Head (memchr s) s m a n c ((a + n) % 2 ^ 32) flag) (turn C know (memchr s) s m h.holds a n c ((a + n) % 2 ^ 32) flag sp) n _
                   record { most = most_nodes; left = l; within = omega arith; bytes = refl; quiet = refl; r5 = refl; r10 = refl; r11 = refl; cursor = record { low = omega arith; high = sp.low; count = refl } },
               λ ne.
                   let sp = span_some a n flag small ne (true_then (room a) n ne) in
-                  while C knows_room.fair (Differ (r 8) (r 11)) turn_tree 0 _ _ ℕ (λ i. i) (Head (memchr s) s m a n c ((a + room a) % 2 ^ 32) flag) (turn C knows_room (memchr s) s m h.holds a n c ((a + room a) % 2 ^ 32) flag sp) n _
+                  while C know.fair (Differ (r 8) (r 11)) turn_tree 0 _ _ ℕ (λ i. i) (Head (memchr s) s m a n c ((a + room a) % 2 ^ 32) flag) (turn C know (memchr s) s m h.holds a n c ((a + room a) % 2 ^ 32) flag sp) n _
                   record { most = most_nodes; left = l; within = omega arith; bytes = refl; quiet = refl; r5 = refl; r10 = refl; r11 = refl; cursor = record { low = omega arith; high = sp.low; count = refl } },
             )),
       ),

@@ -4,11 +4,13 @@ ghost use Rattle.psx_flow.specs.Reading.{tree_of};
 ghost use Rattle.psx_flow.specs.Well.{is_well};
 ghost use Rattle.psx_flow.specs.Spaced.{is_spaced};
 ghost use Rattle.abs_kernel.specs.Memcpy.{memcpy};
-ghost use Rattle.kern_stay.specs.Doors.{Serves};
+ghost use Rattle.kern_stay.specs.Doors.{Serves, most_nodes};
+ghost use Rattle.kern_mem.specs.Own.{own};
 ghost use Rattle.kern_mem.specs.declared.a2a_memcpy.TheConstants.{NODES};
 ghost use Rattle.kern_mem.specs.declared.places.TheConstants.{MEMCPY};
 
-use kern_stay::places::{BAD_POINTER, LEAVE, ROOM};
+use crate::places::ROOM;
+use kern_stay::places::{BAD_POINTER, LEAVE};
 use psx_flow::{Node, Test, op, register};
 
 /// r4 is the destination, r5 the source, r6 the count. r8 is the address of the byte that is read next, r11 where these end, and r9 that of the byte that is written next.
@@ -65,7 +67,7 @@ pub fn memcpy() -> &'static [Node]
     ensures listing { result.now ≡ NODES }
     ensures well { IsTrue (is_well result.now) }
     ensures spaced { IsTrue (is_spaced result.now) }
-    ensures serves { IfSome (tree_of result.now) (λ tree. Serves memcpy MEMCPY tree) }
+    ensures serves { IfSome (tree_of result.now) (λ tree. Serves own most_nodes memcpy MEMCPY tree) }
 {
     &NODES
 }

@@ -5,11 +5,13 @@ ghost use Rattle.psx_flow.specs.Well.{is_well};
 ghost use Rattle.psx_flow.specs.Spaced.{is_spaced};
 ghost use Rattle.abs_kernel.specs.declared.calls.CallId.TheVariants.{A2B};
 ghost use Rattle.abs_kernel.specs.Calls.{call};
-ghost use Rattle.kern_stay.specs.Doors.{Serves};
+ghost use Rattle.kern_stay.specs.Doors.{Serves, most_nodes};
+ghost use Rattle.kern_mem.specs.Own.{own};
 ghost use Rattle.kern_mem.specs.declared.a2b_memset.TheConstants.{NODES};
 ghost use Rattle.kern_mem.specs.declared.places.TheConstants.{MEMSET};
 
-use kern_stay::places::{BAD_POINTER, LEAVE, ROOM};
+use crate::places::ROOM;
+use kern_stay::places::{BAD_POINTER, LEAVE};
 use psx_flow::{Node, Test, op, register};
 
 /// r4 is the place, r5 the byte, r6 the count. r8 is the address of the byte that comes, r11 where the bytes end, and r10 is 1 where that is since no user memory is there.
@@ -46,7 +48,7 @@ pub fn memset() -> &'static [Node]
     ensures listing { result.now ≡ NODES }
     ensures well { IsTrue (is_well result.now) }
     ensures spaced { IsTrue (is_spaced result.now) }
-    ensures serves { IfSome (tree_of result.now) (λ tree. Serves (call A2B) MEMSET tree) }
+    ensures serves { IfSome (tree_of result.now) (λ tree. Serves own most_nodes (call A2B) MEMSET tree) }
 {
     &NODES
 }

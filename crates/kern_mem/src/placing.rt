@@ -5,15 +5,18 @@ ghost use Rattle.kern_stay.specs.Words.{overlaid};
 ghost use Rattle.kern_mem.specs.MemWords.{mem_pieces};
 ghost use Rattle.kern_mem.specs.MemLaws.{MemServes};
 
-use crate::places::{MEMCHR, MEMSET, RAND, SRAND};
-use crate::{a2b_memset, a2e_memchr, a2f_rand, a30_srand};
+use crate::places::{MEMCHR, MEMCPY, MEMSET, RAND, ROOM, SRAND};
+use crate::{a2a_memcpy, a2b_memset, a2e_memchr, a2f_rand, a30_srand};
 use kern_layout::KernelBlock;
 use kern_stay::placing::put_listing;
+use kern_stay::room::ROOM_NODES;
 
 /// Writes the words of the listings at their addresses. Every other word stays.
 pub fn place(block: &mut KernelBlock)
     ensures { (f : ℕ → ℕ) → IsBlock block.old f → IsBlock block.new (overlaid mem_pieces f) }
 {
+    put_listing(block, MEMCPY, &a2a_memcpy::NODES);
+    put_listing(block, ROOM, &ROOM_NODES);
     put_listing(block, SRAND, &a30_srand::NODES);
     put_listing(block, RAND, &a2f_rand::NODES);
     put_listing(block, MEMCHR, &a2e_memchr::NODES);

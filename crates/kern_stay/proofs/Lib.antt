@@ -1,5 +1,6 @@
 pub mod RoomLeft
 pub mod RoomGiven
+pub mod Accessing
 pub mod Holding
 pub mod Ending
 pub mod Over

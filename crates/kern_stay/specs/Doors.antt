@@ -1,5 +1,5 @@
 -- What is asked of a routine: from where the table's entry leads, with the caller's context saved, its words come to one of the doors, where what is left of the stay is made.
-use Rattle.std.specs.Prelude.{◌≡◌, ℕ, ◌+◌, ◌*◌, ◌^◌, ◌<◌, ◌≤◌, false, cond, nat_eq, List, [], ◌∷◌, None}
+use Rattle.std.specs.Prelude.{◌≡◌, ℕ, ◌+◌, ◌*◌, ◌^◌, ◌<◌, ◌≤◌, false, cond, nat_eq, List, [], ◌∷◌, ◌++◌, None}
 use Rattle.psx_base.specs.declared.stop.Stop.{Stop}
 use Rattle.psx_base.specs.declared.stop.Stop.TheVariants.{BadPointer}
 use Rattle.psx_base.specs.Context.{taken, epc_of}
@@ -11,7 +11,7 @@ use Rattle.psx_flow.specs.Tree.{Tree}
 use Rattle.psx_flow.specs.Run.{Run, Access}
 use Rattle.psx_flow.specs.Told.{ports}
 use Rattle.psx_flow.specs.Kernel.{kernel_words}
-use Rattle.psx_flow.specs.Reaches.{IsPlaced}
+use Rattle.psx_flow.specs.Reaches.{IsPlaced, ArePlaced}
 use Rattle.psx_flow.specs.Meets.{Goal, Meets, calls}
 use Rattle.kern_layout.specs.Numbers.{work_area}
 use Rattle.kern_layout.specs.Fields.{Block}
@@ -23,7 +23,7 @@ use Rattle.abs_kernel.specs.Stay.{Stay, Return, Halt, Touch}
 use Rattle.abs_kernel.specs.Answered.{registers_of, with_running, with_answer}
 use Rattle.kern_stay.specs.declared.places.TheConstants.{LEAVE, WAIT, BAD_POINTER}
 use Rattle.kern_stay.specs.Follows.{after, Follows}
-use Rattle.kern_stay.specs.Shared.{shared}
+use Rattle.kern_stay.specs.Shared.{tested_there}
 
 -- While the kernel runs, a memory stands for a state: the work area holds the running context, the tables and variables are the state's, and so is user memory.
 pub record Holds (s : KernelState) (m : Memory) : Type 0 where
@@ -99,15 +99,21 @@ begun c z m = record { regs = c; cop0 = z; bytes = m; seen = []; passed = 0 }
 abbrev pub most_nodes : ℕ
 most_nodes = 2048
 
--- a listing at an address serves a call
-abbrev pub Serves : (KernelState → Stay) → ℕ → Tree → Type 0
-Serves stay at T =
-    (s : KernelState) (d : Registers) (z : Cop0) (m : Memory) → Arrives s m
-    → Meets kernel_words (calls kernel_words shared) T at (λ _. ⊥) (λ to e. Through (stay s) most_nodes to e) (begun (called_with (registers_of s) d) z m)
+-- a call of the heap: at most 32,768 steps, so 8,192 nodes
+abbrev pub most_heap_nodes : ℕ
+most_heap_nodes = 8192
 
--- a call is served by a listing that stands at an address
-pub record IsServed (m : Memory) (stay : KernelState → Stay) (at : ℕ) : Type 0 where
+-- A listing at an address serves a call, within so many nodes. It calls listings of its own range, each of which calls those behind it, and the four accesses to user memory.
+abbrev pub Serves : (own : List (ℕ × Tree)) → (most : ℕ) → (KernelState → Stay) → ℕ → Tree → Type 0
+Serves own most stay at T =
+    (s : KernelState) (d : Registers) (z : Cop0) (m : Memory) → Arrives s m
+    → Meets kernel_words (calls kernel_words (own ++ tested_there)) T at (λ _. ⊥) (λ to e. Through (stay s) most to e) (begun (called_with (registers_of s) d) z m)
+
+-- a call is served, within so many nodes, by a listing that stands at an address, and so do those of its own range that it calls
+pub record IsServed (m : Memory) (most : ℕ) (stay : KernelState → Stay) (at : ℕ) : Type 0 where
   pub there : at ≡ 0 → ⊥
+  pub own : List (ℕ × Tree)
+  pub own_placed : ArePlaced kernel_words m own
   pub listing : Tree
   pub placed : IsPlaced kernel_words m at listing
-  pub serves : Serves stay at listing
+  pub serves : Serves own most stay at listing

@@ -15,12 +15,6 @@ pub const WAIT: u32 = LEAVE + 0x80;
 /// Where a routine arrives with an address in r8 that isn't user memory.
 pub const BAD_POINTER: u32 = CACHED + 0x1800;
 
-/// The listing that counts the bytes of user memory from an address on.
-pub const ROOM: u32 = CACHED + 0x1840;
-
-/// The listing that copies words of the kernel's data.
-pub const COPY: u32 = CACHED + 0x1900;
-
 /// The listing that reads a byte of user memory.
 pub const READ_BYTE: u32 = CACHED + TESTED_READ_BYTE;
 

@@ -1,5 +1,5 @@
 -- strlen meets its stay.
-use Rattle.psx_flow.proofs.Kit.{◌≡◌, ℕ, suc, ◌+◌, ◌-◌, ◌%◌, ◌^◌, ◌<◌, ◌≤◌, refl, sym, ap, ◌∙◌, subst, arith, Memory, byte, Run, Goal, Calls, calls, Tree, Stop, Do, When, Go, place, kernel_words, start, while, Turn, Sym, ended}
+use Rattle.psx_flow.proofs.Kit.{◌≡◌, ℕ, suc, ◌+◌, ◌-◌, ◌%◌, ◌^◌, ◌<◌, ◌≤◌, ◌++◌, refl, sym, ap, ◌∙◌, subst, arith, Memory, byte, Run, Goal, Calls, calls, Tree, Stop, Do, When, Go, place, kernel_words, start, while, Turn, Sym, ended}
 use Rattle.std.proofs.Common.{zero, [], eq-eqb, ne_eqb}
 use Rattle.std.specs.Prelude.{nat_eq, if◌then◌else◌}
 use Rattle.psx_ins.specs.declared.reg.Reg.{Reg}
@@ -12,14 +12,15 @@ use Rattle.abs_kernel.specs.Answered.{registers_of, answered}
 use Rattle.abs_kernel.specs.UserBytes.{reads_byte, bad_pointer, following, longest}
 use Rattle.abs_kernel.specs.Strlen.{count_bytes, strlen}
 use Rattle.kern_stay.specs.Room.{room}
-use Rattle.kern_stay.specs.Shared.{tree, shared}
+use Rattle.kern_stay.specs.Shared.{tree, tested_there}
 use Rattle.kern_stay.specs.declared.places.TheConstants.{LEAVE, BAD_POINTER}
 use Rattle.kern_stay.specs.Doors.{Holds, Through, Serves, called_with, begun, most_nodes}
 use Rattle.kern_stay.proofs.RoomGiven.{KnowsRoom, knows_room}
 use Rattle.kern_stay.proofs.RoomLeft.{Span, span_some, room_few}
 use Rattle.kern_stay.proofs.Ending.{through, answers, refuses, Left, left_all, left_is, left_read, left_unread, user_byte}
 use Rattle.kern_stay.proofs.Cursor.{Cursor, coming, done_bad, null, not_null}
-use Rattle.kern_text.specs.declared.places.TheConstants.{STRLEN}
+use Rattle.kern_text.specs.Own.{own}
+use Rattle.kern_text.specs.declared.places.TheConstants.{STRLEN, ROOM}
 use Rattle.kern_text.specs.declared.a1b_strlen.TheConstants.{NODES}
 
 abbrev r : ℕ → Reg
@@ -51,7 +52,7 @@ record Head (stay : Stay) (s : KernelState) (m : Memory) (a n stop k : ℕ) (e :
   r11 : e.regs.r11 ≡ stop
   cursor : Cursor a n stop k e.regs.r8
 
-module _ (C : Calls) (know : KnowsRoom C) (stay : Stay) (s : KernelState) (m : Memory) (holds : Holds s m) (a n stop : ℕ) (span : Span a n stop 1) where
+module _ (C : Calls) (know : KnowsRoom ROOM C) (stay : Stay) (s : KernelState) (m : Memory) (holds : Holds s m) (a n stop : ℕ) (span : Span a n stop 1) where
   abbrev G : ℕ → Goal
   G to e = Through stay most_nodes to e
 
@@ -85,19 +86,20 @@ room_short : (a : ℕ) → room a + 1 ≤ longest
 unfolding longest
 room_short a = let h = room_few a in omega (arith, h)
 
-pub serves : Serves strlen STRLEN (tree NODES)
+pub serves : Serves own most_nodes strlen STRLEN (tree NODES)
 serves s d z m h =
-    let C : Calls = calls kernel_words shared in
+    let C : Calls = calls kernel_words (own ++ tested_there) in
+    let know : KnowsRoom ROOM C = knows_room ROOM tested_there in
     let a : ℕ = (registers_of s).r4 in
     let small : a < 2 ^ 32 = h.words 4 in
     let n : ℕ = room a + 1 in
     let sp = span_some a n 1 small (λ e. absurd (omega (arith, e))) (omega arith) in
     let few : n ≤ longest = room_short a in
-    start C knows_room.fair (tree NODES) STRLEN (λ _. ⊥) (λ to e. Through (strlen s) most_nodes to e) (begun (called_with (registers_of s) d) z m) (
+    start C know.fair (tree NODES) STRLEN (λ _. ⊥) (λ to e. Through (strlen s) most_nodes to e) (begun (called_with (registers_of s) d) z m) (
       λ none. through (strlen s) most_nodes _ _ refl (answers most_nodes s _ (strlen s) (null a (answered s 0) (count_bytes longest s a 0) none) h.holds (omega arith)),
       λ some.
           let l : Left (strlen s) (count_bytes longest s a 0) most_nodes = left_is (strlen s) (strlen s) (count_bytes longest s a 0) most_nodes (not_null a (answered s 0) (count_bytes longest s a 0) some) (left_all (strlen s)) in
-          knows_room.room _ _ _ _ _ _ _ small (λ x y p up.
-          while C knows_room.fair (Differ (r 8) (r 11)) turn_tree 0 _ _ ℕ (λ i. i) (Head (strlen s) s m a n ((a + room a) % 2 ^ 32)) (turn C knows_room (strlen s) s m h.holds a n ((a + room a) % 2 ^ 32) sp) n _
+          know.room _ _ _ _ _ _ _ small (λ x y p up.
+          while C know.fair (Differ (r 8) (r 11)) turn_tree 0 _ _ ℕ (λ i. i) (Head (strlen s) s m a n ((a + room a) % 2 ^ 32)) (turn C know (strlen s) s m h.holds a n ((a + room a) % 2 ^ 32) sp) n _
           record { fuel = longest; some = few; count = 0; counted = omega arith; most = most_nodes; left = l; within = omega arith; bytes = refl; quiet = refl; r4 = refl; r11 = refl; cursor = record { low = omega arith; high = sp.low; count = refl } }),
     )

@@ -4,3 +4,6 @@ use kern_stay::places::CACHED;
 
 /// The listing of strlen.
 pub const STRLEN: u32 = CACHED + TEXT_CODE.from;
+
+/// The listing that counts the bytes of user memory from an address on.
+pub const ROOM: u32 = STRLEN + 0x80;

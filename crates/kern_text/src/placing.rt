@@ -6,14 +6,16 @@ ghost use Rattle.kern_text.specs.TextWords.{text_pieces};
 ghost use Rattle.kern_text.specs.TextLaws.{TextServes};
 
 use crate::a1b_strlen;
-use crate::places::STRLEN;
+use crate::places::{ROOM, STRLEN};
 use kern_layout::KernelBlock;
 use kern_stay::placing::put_listing;
+use kern_stay::room::ROOM_NODES;
 
 /// Writes the words of the listings at their addresses. Every other word stays.
 pub fn place(block: &mut KernelBlock)
     ensures { (f : ℕ → ℕ) → IsBlock block.old f → IsBlock block.new (overlaid text_pieces f) }
 {
+    put_listing(block, ROOM, &ROOM_NODES);
     put_listing(block, STRLEN, &a1b_strlen::NODES);
 }
 
