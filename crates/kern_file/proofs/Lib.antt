@@ -1,2 +1,2 @@
-pub mod PutsMeets
+pub mod A3ePuts
 pub mod Served

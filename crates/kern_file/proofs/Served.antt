@@ -4,10 +4,10 @@ use Rattle.kern_stay.specs.Shared.{tree}
 use Rattle.kern_stay.specs.declared.room.TheConstants.{ROOM_NODES}
 use Rattle.kern_stay.proofs.Standing.{placed_by}
 use Rattle.kern_file.specs.declared.places.TheConstants.{PUTS, PUTS_LOOP, ROOM}
-use Rattle.kern_file.specs.declared.puts.TheConstants as puts_is
+use Rattle.kern_file.specs.declared.a3e_puts.TheConstants as puts_is
 use Rattle.kern_file.specs.Own.{own}
 use Rattle.kern_file.specs.FileLaws.{FileServes}
-use Rattle.kern_file.proofs.PutsMeets as of_puts
+use Rattle.kern_file.proofs.A3ePuts as of_puts
 
 pub file_serves : FileServes
 file_serves m r = record {

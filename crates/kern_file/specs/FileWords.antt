@@ -3,7 +3,7 @@ use Rattle.std.specs.Prelude.{ℕ, List, [], ◌∷◌}
 use Rattle.kern_stay.specs.Words.{listing}
 use Rattle.kern_stay.specs.declared.room.TheConstants.{ROOM_NODES}
 use Rattle.kern_file.specs.declared.places.TheConstants.{PUTS, PUTS_LOOP, ROOM}
-use Rattle.kern_file.specs.declared.puts.TheConstants as puts
+use Rattle.kern_file.specs.declared.a3e_puts.TheConstants as puts
 
 -- in the order of their addresses
 abbrev pub file_pieces : List (ℕ × List ℕ)

@@ -6,7 +6,7 @@ ghost use Rattle.kern_file.specs.FileWords.{file_pieces};
 ghost use Rattle.kern_file.specs.FileLaws.{FileServes};
 
 use crate::places::{PUTS, PUTS_LOOP, ROOM};
-use crate::puts;
+use crate::a3e_puts;
 use kern_layout::KernelBlock;
 use kern_stay::placing::put_listing;
 use kern_stay::room::ROOM_NODES;
@@ -16,8 +16,8 @@ pub fn place(block: &mut KernelBlock)
     ensures { (f : ℕ → ℕ) → IsBlock block.old f → IsBlock block.new (overlaid file_pieces f) }
 {
     put_listing(block, ROOM, &ROOM_NODES);
-    put_listing(block, PUTS_LOOP, &puts::LOOP_NODES);
-    put_listing(block, PUTS, &puts::NODES);
+    put_listing(block, PUTS_LOOP, &a3e_puts::LOOP_NODES);
+    put_listing(block, PUTS, &a3e_puts::NODES);
 }
 
 /// Where the words stand, each call is served by its listing. It does nothing.

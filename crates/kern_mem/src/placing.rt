@@ -5,8 +5,8 @@ ghost use Rattle.kern_stay.specs.Words.{overlaid};
 ghost use Rattle.kern_mem.specs.MemWords.{mem_pieces};
 ghost use Rattle.kern_mem.specs.MemLaws.{MemServes};
 
-use crate::places::{MEMCHR, MEMSET, RAND, ROOM, SRAND};
-use crate::{memchr, memset, rand, srand};
+use crate::places::{MEMCHR, MEMCPY, MEMSET, RAND, ROOM, SRAND};
+use crate::{a2a_memcpy, a2b_memset, a2e_memchr, a2f_rand, a30_srand};
 use kern_layout::KernelBlock;
 use kern_stay::placing::put_listing;
 use kern_stay::room::ROOM_NODES;
@@ -15,11 +15,12 @@ use kern_stay::room::ROOM_NODES;
 pub fn place(block: &mut KernelBlock)
     ensures { (f : ℕ → ℕ) → IsBlock block.old f → IsBlock block.new (overlaid mem_pieces f) }
 {
+    put_listing(block, MEMCPY, &a2a_memcpy::NODES);
     put_listing(block, ROOM, &ROOM_NODES);
-    put_listing(block, SRAND, &srand::NODES);
-    put_listing(block, RAND, &rand::NODES);
-    put_listing(block, MEMCHR, &memchr::NODES);
-    put_listing(block, MEMSET, &memset::NODES);
+    put_listing(block, SRAND, &a30_srand::NODES);
+    put_listing(block, RAND, &a2f_rand::NODES);
+    put_listing(block, MEMCHR, &a2e_memchr::NODES);
+    put_listing(block, MEMSET, &a2b_memset::NODES);
 }
 
 /// Where the words stand, each call is served by its listing. It does nothing.
