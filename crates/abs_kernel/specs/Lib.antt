@@ -19,3 +19,4 @@ pub mod PlayedLaws
 pub mod ProgramLaws
 pub mod UserLaws
 pub mod Equations
+pub mod Work
