@@ -185,7 +185,7 @@ fn keep(stopped: &mut Option<Stop>, did: Did)
 }
 
 impl Board {
-    /// A board at reset, with a program placed in its memory: the text, and then zeros in its fill. It takes all memory that the board ever needs, or gives Memory for want of it.
+    /// A board at reset, with a program placed in its memory: the text, and then zeros in its fill. An Err is want of memory.
     ///
     /// The ROM's 80000h bytes stand at 1FC00000h, where the first instruction is fetched (PSX-SPX, Memory Map). The start ports answer with the program's pc, gp and stack,
     /// and with the sizes: 4 to 16 threads and 16 to 64 events. The entries of the schedule reach the ports at their counts. A refusal drops the schedule.
