@@ -1,6 +1,6 @@
 -- Which physical addresses are ports.
 use Rattle.std.specs.Prelude.{ℕ, ◌+◌, ◌%◌, Bool, ◌&&◌, ◌||◌, nat_eq, nat_le}
-use Rattle.psx_base.specs.declared.ports.TheConstants.{I_STAT, I_MASK, COUNTERS, CONSOLE_STATUS, START_EVENTS}
+use Rattle.psx_base.specs.Ports.{I_STAT, I_MASK, COUNTERS, CONSOLE_STATUS, START_EVENTS}
 
 -- the value, mode and target of the three root counters
 abbrev pub counter_port : ℕ → Bool

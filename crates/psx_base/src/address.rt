@@ -98,7 +98,7 @@ fn end_of(at: u32) -> u32
     }
 }
 
-/// The first of `len` addresses from `start` on, modulo 2^32, that isn't user memory. Its time doesn't grow with `len`.
+/// The first of `len` addresses from `start` on, modulo 2^32, that isn't user memory. None where all of them are.
 pub fn first_bad(start: u32, len: u32) -> Option<u32>
     ensures { result ≡ first_bad_of start len }
 {

@@ -140,8 +140,7 @@ impl MemoryHost {
     ghost use Rattle.psx_base.specs.MemoryHost.{held, sent_on, load_faults_of, send_faults_of, set_loads, set_sends, IsQuiet, fails_load, fails_send, KeepsRest, SetsLoads, SetsSends};
     ghost use Rattle.psx_base.specs.Calls.{next_call};
 
-    /// A host with no files and no faults, with room for so many bytes on each output. It takes that room here, so that a send takes no memory,
-    /// and keeps its allocator for the files and settings.
+    /// A host with no files and no faults, with room for so many bytes on each output. An Err is want of memory for that room.
     pub fn new(alloc: Global, room: usize) -> Result<MemoryHost, Memory>
         ensures { IfOk result (λ h. IsQuiet h room) }
     {

@@ -18,7 +18,7 @@ impl NoFailHost {
     ghost use Rattle.psx_base.specs.Files.{SetsFile, KeepsFiles};
     ghost use Rattle.psx_base.specs.NoFailHost.{kept};
 
-    /// A host with no files, which keeps its allocator for those that are put. It takes no memory.
+    /// A host with no files.
     pub fn new(alloc: Global) -> NoFailHost
         ensures { (n : List ℕ) → kept result n ≡ None }
     {

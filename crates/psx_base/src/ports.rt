@@ -2,6 +2,7 @@
 //! PSX-SPX, Interrupt Control and Timers, has those below 1F802000h. The others are this board's own.
 ghost use Rattle.std.specs.Prelude.{◌≡◌};
 ghost use Rattle.psx_base.specs.PortAddresses.{port};
+ghost use Rattle.psx_base.specs.Ports;
 
 /// The pending lines.
 pub const I_STAT: u32 = 0x1F80_1070;
@@ -44,6 +45,26 @@ pub const START_THREADS: u32 = 0x1F80_2124;
 
 /// Reads the number of events.
 pub const START_EVENTS: u32 = 0x1F80_2128;
+
+/// The constants of this module are the addresses of the port table in `specs/Ports.antt`, of which the definitions of the board speak.
+///
+/// It does nothing: its contract is the law.
+pub fn addresses()
+    ensures stat { I_STAT ≡ Ports.I_STAT }
+    ensures mask { I_MASK ≡ Ports.I_MASK }
+    ensures counters { COUNTERS ≡ Ports.COUNTERS }
+    ensures status { CONSOLE_STATUS ≡ Ports.CONSOLE_STATUS }
+    ensures data { CONSOLE_DATA ≡ Ports.CONSOLE_DATA }
+    ensures halt_a { HALT_A ≡ Ports.HALT_A }
+    ensures halt_b { HALT_B ≡ Ports.HALT_B }
+    ensures halt_c { HALT_C ≡ Ports.HALT_C }
+    ensures halt { HALT ≡ Ports.HALT }
+    ensures pc { START_PC ≡ Ports.START_PC }
+    ensures gp { START_GP ≡ Ports.START_GP }
+    ensures sp { START_SP ≡ Ports.START_SP }
+    ensures threads { START_THREADS ≡ Ports.START_THREADS }
+    ensures events { START_EVENTS ≡ Ports.START_EVENTS }
+{}
 
 /// Whether a physical address is a port's: a port is one word, and the other bytes of the word are none.
 #[tactic(auto, unfolding(crate::specs::PortAddresses::port))]

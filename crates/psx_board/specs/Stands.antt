@@ -1,6 +1,6 @@
 -- That a board, which keeps no history, stands for a machine, and what a step tells.
 use Rattle.std.specs.Prelude.{◌≡◌, ℕ, ◌%◌, ◌^◌, Bool, true, List, [], ◌∷◌, Option, Some, None, nat_eq, if◌then◌else◌}
-use Rattle.psx_base.specs.declared.ports.TheConstants.{CONSOLE_DATA}
+use Rattle.psx_base.specs.Ports.{CONSOLE_DATA}
 use Rattle.psx_base.specs.declared.stop.Stop.{Stop}
 use Rattle.psx_base.specs.Items.{Item, R}
 use Rattle.psx_cpu.specs.declared.step.Did.{Did}

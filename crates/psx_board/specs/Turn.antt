@@ -1,6 +1,6 @@
 -- One step of the board.
 use Rattle.std.specs.Prelude.{ℕ, ◌+◌, Bool, true, false, ◌&&◌, nat_le, List, [], ◌∷◌, Option, Some, None, if◌then◌else◌}
-use Rattle.psx_base.specs.declared.ports.TheConstants.{CONSOLE_STATUS, HALT}
+use Rattle.psx_base.specs.Ports.{CONSOLE_STATUS, HALT}
 use Rattle.psx_base.specs.declared.stop.Stop.{Stop}
 use Rattle.psx_base.specs.Items.{Item, R, W}
 use Rattle.psx_cpu.specs.Processor.{Core, Bus}

@@ -15,6 +15,7 @@ ghost use Rattle.psx_ports.specs.History.{written};
 ghost use Rattle.psx_board.specs.Machine.{Machine, start};
 ghost use Rattle.psx_board.specs.Delivery;
 ghost use Rattle.psx_board.specs.Turn.{turn, asked, answered};
+ghost use Rattle.psx_board.specs.Told.{told};
 ghost use Rattle.psx_board.specs.Devices.{Carries};
 ghost use Rattle.psx_board.specs.Finished.{Counted, Wrote, Finished, finished, after_read, stop_of};
 ghost use Rattle.psx_board.specs.Stands.{Stands, Turned, WentOn};
@@ -185,7 +186,7 @@ fn keep(stopped: &mut Option<Stop>, did: Did)
 }
 
 impl Board {
-    /// A board at reset, with a program placed in its memory: the text, and then zeros in its fill. It takes all memory that the board ever needs, or gives Memory for want of it.
+    /// A board at reset, with a program placed in its memory: the text, and then zeros in its fill. An Err is want of memory.
     ///
     /// The ROM's 80000h bytes stand at 1FC00000h, where the first instruction is fetched (PSX-SPX, Memory Map). The start ports answer with the program's pc, gp and stack,
     /// and with the sizes: 4 to 16 threads and 16 to 64 events. The entries of the schedule reach the ports at their counts. A refusal drops the schedule.
@@ -266,6 +267,7 @@ impl Board {
         requires running { self.old.stopped ≡ None }
         requires room { self.old.taken < 2 ^ 64 - 1 }
         ensures turns { (m : Machine) → Stands self.old m → Turned m (turn m) result self.new }
+        ensures told { (m : Machine) → Stands self.old m → result ≡ told m }
         ensures after { (calls : ℕ) (m : Machine) → StandsAfter self.old calls m → StandsAfter self.new (calls + 1) m }
         ensures counted { self.new.taken ≤ self.old.taken + 1 }
         ensures went { WentOn result → self.new.taken ≡ self.old.taken + 1 }

@@ -1,8 +1,8 @@
 -- What a read answers, by its address.
 use Rattle.std.proofs.Common.{◌≡◌, ℕ, ◌≤◌, Bool, true, false, inl, inr, List, refl, ap, ◌∙◌, arith}
 use Rattle.std.specs.Prelude.{nat_eq, if◌then◌else◌}
-use Rattle.psx_base.specs.declared.ports.TheConstants.{I_STAT, I_MASK, CONSOLE_STATUS, CONSOLE_DATA, START_PC, START_GP, START_SP, START_THREADS, START_EVENTS}
-use Rattle.psx_ports.specs.History.{History, Event, answer, counters_answer, counter_answer, value_port, mode_port, target_port, is_counter_port, due, first_of}
+use Rattle.psx_base.specs.Ports.{I_STAT, I_MASK, value_port, mode_port, target_port, CONSOLE_STATUS, CONSOLE_DATA, START_PC, START_GP, START_SP, START_THREADS, START_EVENTS}
+use Rattle.psx_ports.specs.History.{History, Event, answer, counters_answer, counter_answer, is_counter_port, due, first_of}
 use Rattle.psx_ports.proofs.Events.{apart, within}
 
 pub answer-data : (h : History) → answer h CONSOLE_DATA ≡ first_of (due h.events)

@@ -3,11 +3,11 @@ use Rattle.std.proofs.Common.{◌≡◌, ℕ, ◌+◌, ◌%◌, ◌^◌, ◌≤�
 use Rattle.std.specs.Prelude.{◌&&◌, nat_eq, nat_le, bit_and, bit_or, if◌then◌else◌}
 use Rattle.std.proofs.lemmas.Bool.{le-leb}
 use Rattle.std.proofs.lemmas.Bool.Decides.{eqb_tells, leb_tells}
-use Rattle.psx_base.specs.declared.ports.TheConstants.{I_STAT, I_MASK, COUNTERS, CONSOLE_DATA, HALT_A, HALT_B, HALT_C}
+use Rattle.psx_base.specs.Ports.{I_STAT, I_MASK, COUNTERS, value_port, mode_port, target_port, CONSOLE_DATA, HALT_A, HALT_B, HALT_C}
 use Rattle.psx_ports.specs.Counter.{Act, SetValue, SetMode, SetTarget, TakeMode, bit}
 use Rattle.psx_ports.specs.KeptCounter.{KeptCounter, Follows}
 use Rattle.psx_ports.specs.Interrupts.{with_pending, with_mask}
-use Rattle.psx_ports.specs.History.{History, Event, Read, Write, Raise, Give, then_event, acts_of, last_written, then_act, mode_port, value_port, target_port, i_stat, due, is_counter_port}
+use Rattle.psx_ports.specs.History.{History, Event, Read, Write, Raise, Give, then_event, acts_of, last_written, then_act, i_stat, due, is_counter_port}
 use Rattle.psx_ports.specs.Stands.{Kept, KeptCounters, StandsFor, CounterStands, CountersStand, least_next}
 use Rattle.psx_ports.proofs.Pending.{stat-same, stat-raised, stat-acknowledged}
 

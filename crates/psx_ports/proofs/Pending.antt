@@ -2,7 +2,7 @@
 use Rattle.std.proofs.Common.{◌≡◌, ℕ, ◌-◌, ◌^◌, ◌≤◌, Bool, true, false, inl, inr, List, [], ◌∷◌, refl, sym, ap, subst, ◌∙◌, arith}
 use Rattle.std.specs.Prelude.{◌&&◌, ◌||◌, nat_eq, nat_le, bit_and, bit_or}
 use Rattle.std.proofs.lemmas.Bool.Decides.{leb_tells}
-use Rattle.psx_base.specs.declared.ports.TheConstants.{I_STAT}
+use Rattle.psx_base.specs.Ports.{I_STAT}
 use Rattle.psx_ports.specs.Counter.{bit, happens, raises}
 use Rattle.psx_ports.specs.History.{History, Event, Write, Raise, moment, then_event, at_count, acts_of, turned, left, pending, word_of, i_stat}
 use Rattle.psx_ports.specs.Stands.{last_moment}

@@ -1,7 +1,7 @@
 -- The history of the ports: what they were given at the start, and what happened to them so far, newest first, each with the count of its step.
 -- Every answer is a function of it. Within a step lines and bytes come first, then the access, then the counters' turns of the next count.
-use Rattle.std.specs.Prelude.{ℕ, zero, suc, ◌+◌, ◌-◌, ◌*◌, ◌%◌, ◌^◌, Bool, not, ◌&&◌, ◌||◌, nat_eq, nat_le, bit_and, List, [], ◌∷◌, ◌++◌, drop, Option, Some, None, if◌then◌else◌}
-use Rattle.psx_base.specs.declared.ports.TheConstants.{I_STAT, I_MASK, COUNTERS, CONSOLE_STATUS, CONSOLE_DATA, START_PC, START_GP, START_SP, START_THREADS, START_EVENTS, HALT, HALT_A, HALT_B, HALT_C}
+use Rattle.std.specs.Prelude.{ℕ, zero, suc, ◌+◌, ◌-◌, ◌%◌, ◌^◌, Bool, not, ◌&&◌, ◌||◌, nat_eq, nat_le, bit_and, List, [], ◌∷◌, ◌++◌, drop, Option, Some, None, if◌then◌else◌}
+use Rattle.psx_base.specs.Ports.{I_STAT, I_MASK, COUNTERS, value_port, mode_port, target_port, CONSOLE_STATUS, CONSOLE_DATA, START_PC, START_GP, START_SP, START_THREADS, START_EVENTS, HALT, HALT_A, HALT_B, HALT_C}
 use Rattle.psx_base.specs.declared.stop.Stop.{Stop}
 use Rattle.psx_ports.specs.declared.PortDid.{PortDid}
 use Rattle.psx_ports.specs.declared.PortDid.TheVariants.{Quiet, Tty, Halt}
@@ -54,17 +54,7 @@ last_written (Give count byte ∷ before) at = last_written before at
 
 -- ---- counters
 
--- the addresses of counter t's ports
-abbrev pub value_port : ℕ → ℕ
-value_port t = COUNTERS + 0x10 * t
-
-abbrev pub mode_port : ℕ → ℕ
-mode_port t = COUNTERS + 0x10 * t + 4
-
-abbrev pub target_port : ℕ → ℕ
-target_port t = COUNTERS + 0x10 * t + 8
-
--- whether an address is in the range of these ports
+-- whether an address is in the range of the counters' ports
 abbrev pub is_counter_port : ℕ → Bool
 is_counter_port at = nat_le COUNTERS at && nat_le at (COUNTERS + 0x28)
 

@@ -1,6 +1,6 @@
 -- That ports, which keep no history, stand for one.
 use Rattle.std.specs.Prelude.{◌≡◌, ℕ, ◌-◌, ◌^◌, ◌≤◌, ◌<◌, not, nat_eq, bit_and, min, List, [], ◌∷◌}
-use Rattle.psx_base.specs.declared.ports.TheConstants.{HALT_A, HALT_B, HALT_C}
+use Rattle.psx_base.specs.Ports.{HALT_A, HALT_B, HALT_C}
 use Rattle.psx_ports.specs.declared.interrupts.Interrupts.{Interrupts}
 use Rattle.psx_ports.specs.KeptCounter.{KeptCounter, Follows, IsAhead}
 use Rattle.psx_ports.specs.History.{Given, History, Event, moment, last_written, acts_of, i_stat, i_mask, line, at_count, due}

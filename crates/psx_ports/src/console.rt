@@ -27,7 +27,7 @@ impl Model for Console {
 }
 
 impl Console {
-    /// No byte waits. It takes all memory that the console ever needs.
+    /// No byte waits. An Err is want of memory for the ring.
     pub fn new(alloc: Global) -> Result<Console, Memory>
         ensures { IfOk result (λ c. c ≡ []) }
     {

@@ -56,7 +56,7 @@ impl Model for Ports {
 }
 
 impl Ports {
-    /// Ports as they are after reset, at the count 0: all 0 but for the start ports. It takes all memory that the ports ever need, and gives Memory for want of it.
+    /// Ports as they are after reset, at the count 0: all 0 but for the start ports. An Err is want of memory for the bytes that may wait.
     pub fn new(alloc: Global, pc: u32, gp: u32, sp: u32, sizes: Sizes) -> Result<Ports, Memory>
         requires threads { (4 ≤ sizes.threads) × (sizes.threads ≤ 16) }
         requires events { (16 ≤ sizes.events) × (sizes.events ≤ 64) }
@@ -123,7 +123,7 @@ impl Ports {
         self.deadline
     }
 
-    /// Makes the counters' turns of every count after the last one up to a new one. It takes no longer for many counts than for one.
+    /// Makes the counters' turns of every count after the last one up to a new one.
     #[inline]
     pub fn tick(&mut self, count: u64)
         requires { self.old.now ≤ count }

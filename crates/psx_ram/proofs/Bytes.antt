@@ -1,5 +1,5 @@
 -- Bytes that are put one after the other: what is read afterwards, and how such writes combine.
-use Rattle.std.proofs.Common.{◌≡◌, ℕ, zero, suc, ◌+◌, ◌-◌, ◌*◌, ◌^◌, ◌<◌, ◌≤◌, Bool, true, false, cond, List, [], ◌∷◌, ◌++◌, length, get_or, set, take, Some, refl, ap, sym, ◌∙◌, arith, inl, inr}
+use Rattle.std.proofs.Common.{◌≡◌, ℕ, zero, suc, ◌+◌, ◌-◌, ◌<◌, ◌≤◌, Bool, true, false, cond, List, [], ◌∷◌, ◌++◌, length, get_or, set, take, Some, refl, ap, sym, ◌∙◌, arith, inl, inr}
 use Rattle.std.specs.Prelude.{Option, ◌⊎◌, replicate}
 use Rattle.std.proofs.lemmas.Bool.{cases_eq}
 use Rattle.std.proofs.lemmas.List.{take_more, length-take-le, length-replicate}
@@ -11,6 +11,7 @@ use Rattle.std.specs.FinMap.{nat_cmp-IsAntisymmetric}
 use Rattle.psx_base.specs.Memory.{Memory, byte, word, put_byte, put_bytes}
 use Rattle.psx_ram.specs.Apart.{apart}
 use Rattle.psx_ram.specs.Words.{word_at}
+use Rattle.psx_ram.proofs.FourBytes.{word_by_bytes, word_of}
 use Rattle.psx_ram.proofs.Laws.{outside_cases, byte-put_byte_same, byte-put_byte_apart}
 
 -- ---- two writes of a byte
@@ -119,26 +120,17 @@ byte-put_bytes_at m a xs k h =
 
 -- the number of four bytes of the range
 pub word-put_bytes_at : (m : Memory) (a : ℕ) (xs : List ℕ) (k : ℕ) → k + 4 ≤ length xs → word (put_bytes m a xs) (a + k) ≡ word_at xs k
-unfolding word
 word-put_bytes_at m a xs k h =
     let at : (q i : ℕ) → q ≡ a + i → i < length xs → byte (put_bytes m a xs) q ≡ get_or xs i 0
     = λ q i e l. ap (byte (put_bytes m a xs)) e ∙ byte-put_bytes_at m a xs i l in
-    let p0 = at (a + k) k refl (omega arith) in
-    let p1 = at (a + k + 1) (k + 1) (omega arith) (omega arith) in
-    let p2 = at (a + k + 2) (k + 2) (omega arith) (omega arith) in
-    let p3 = at (a + k + 3) (k + 3) (omega arith) (omega arith) in
-    λ i. p0 i + p1 i * 2 ^ 8 + p2 i * 2 ^ 16 + p3 i * 2 ^ 24
+    sym (word_of (put_bytes m a xs) (a + k) xs k (at (a + k) k refl (omega arith)) (at (a + k + 1) (k + 1) (omega arith) (omega arith))
+    (at (a + k + 2) (k + 2) (omega arith) (omega arith)) (at (a + k + 3) (k + 3) (omega arith) (omega arith)))
 
 pub word-put_bytes_apart : (m : Memory) (a : ℕ) (xs : List ℕ) (b : ℕ) → apart a (length xs) b 4 ≡ true → word (put_bytes m a xs) b ≡ word m b
-unfolding word
 word-put_bytes_apart m a xs b h =
     let kept : (q : ℕ) → apart a (length xs) q 1 ≡ true → byte (put_bytes m a xs) q ≡ byte m q
     = λ q o. byte-put_bytes_apart m a xs q (outside_cases a (length xs) q o) in
-    let p0 = kept b (grind arith) in
-    let p1 = kept (b + 1) (grind arith) in
-    let p2 = kept (b + 2) (grind arith) in
-    let p3 = kept (b + 3) (grind arith) in
-    λ i. p0 i + p1 i * 2 ^ 8 + p2 i * 2 ^ 16 + p3 i * 2 ^ 24
+    word_by_bytes (put_bytes m a xs) m b b (kept b (grind arith)) (kept (b + 1) (grind arith)) (kept (b + 2) (grind arith)) (kept (b + 3) (grind arith))
 
 -- ---- the steps of a loop that puts bytes
 

@@ -7,6 +7,7 @@ use Rattle.std.specs.Cmp.{nat_cmp_total}
 use Rattle.std.specs.FinMap as map
 use Rattle.psx_base.specs.Memory.{Memory, byte, put_byte, half, word, put_half, put_word}
 use Rattle.psx_ram.specs.Apart.{apart}
+use Rattle.psx_ram.proofs.FourBytes.{word_by_bytes}
 
 turned : (b : Bool) (v : ℕ) (o : Option ℕ) → unwrap_or (cond b (Some v) o) 0 ≡ cond b v (unwrap_or o 0)
 turned true v o = refl
@@ -98,23 +99,15 @@ half-put_word_apart m a v b h =
     λ i. p0 i + p1 i * 2 ^ 8
 
 pub word-put_word_apart : (m : Memory) (a v b : ℕ) → apart a 4 b 4 ≡ true → word (put_word m a v) b ≡ word m b
-unfolding word
 word-put_word_apart m a v b h =
-    let p0 = byte-put_word_apart m a v b (grind arith) in
-    let p1 = byte-put_word_apart m a v (b + 1) (grind arith) in
-    let p2 = byte-put_word_apart m a v (b + 2) (grind arith) in
-    let p3 = byte-put_word_apart m a v (b + 3) (grind arith) in
-    λ i. p0 i + p1 i * 2 ^ 8 + p2 i * 2 ^ 16 + p3 i * 2 ^ 24
+    let kept : (q : ℕ) → apart a 4 q 1 ≡ true → byte (put_word m a v) q ≡ byte m q = byte-put_word_apart m a v in
+    word_by_bytes (put_word m a v) m b b (kept b (grind arith)) (kept (b + 1) (grind arith)) (kept (b + 2) (grind arith)) (kept (b + 3) (grind arith))
 
 pub word-put_byte_apart : (m : Memory) (a v b : ℕ) → apart a 1 b 4 ≡ true → word (put_byte m a v) b ≡ word m b
-unfolding word
 word-put_byte_apart m a v b h =
     let c = apart_cases a 1 b 4 h in
-    let p0 = byte-put_byte_apart m a v b (omega arith) in
-    let p1 = byte-put_byte_apart m a v (b + 1) (omega arith) in
-    let p2 = byte-put_byte_apart m a v (b + 2) (omega arith) in
-    let p3 = byte-put_byte_apart m a v (b + 3) (omega arith) in
-    λ i. p0 i + p1 i * 2 ^ 8 + p2 i * 2 ^ 16 + p3 i * 2 ^ 24
+    let kept : (q : ℕ) → ¬ (q ≡ a) → byte (put_byte m a v) q ≡ byte m q = byte-put_byte_apart m a v in
+    word_by_bytes (put_byte m a v) m b b (kept b (omega arith)) (kept (b + 1) (omega arith)) (kept (b + 2) (omega arith)) (kept (b + 3) (omega arith))
 
 bytes_of_word : (v : ℕ) → v % 2 ^ 8 + v / 2 ^ 8 % 2 ^ 8 * 2 ^ 8 + v / 2 ^ 16 % 2 ^ 8 * 2 ^ 16 + v / 2 ^ 24 * 2 ^ 24 ≡ v
 bytes_of_word v = omega arith

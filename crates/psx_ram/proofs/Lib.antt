@@ -1,3 +1,4 @@
+pub mod FourBytes
 pub mod Laws
 pub mod Bytes
 pub mod Parts

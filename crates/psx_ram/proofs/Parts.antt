@@ -1,9 +1,10 @@
 -- The memory of the three parts: what is read at an address of each, and what a write to a part is.
-use Rattle.std.proofs.Common.{◌≡◌, ℕ, ◌+◌, ◌-◌, ◌*◌, ◌/◌, ◌%◌, ◌^◌, ◌<◌, ◌≤◌, List, length, get_or, set, refl, ap, sym, ◌∙◌, arith, inl}
+use Rattle.std.proofs.Common.{◌≡◌, ℕ, ◌+◌, ◌-◌, ◌/◌, ◌%◌, ◌^◌, ◌<◌, ◌≤◌, List, length, get_or, set, refl, ap, sym, ◌∙◌, arith, inl}
 use Rattle.std.proofs.Math.ListN.{length-set}
-use Rattle.psx_base.specs.Memory.{Memory, no_bytes, byte, word, put_byte, put_bytes, put_word}
+use Rattle.psx_base.specs.Memory.{no_bytes, byte, word, put_byte, put_bytes, put_word}
 use Rattle.psx_ram.specs.Words.{word_at, with_word}
 use Rattle.psx_ram.specs.Parts.{of_parts}
+use Rattle.psx_ram.proofs.FourBytes.{word_of}
 use Rattle.psx_ram.proofs.Bytes.{byte-put_bytes, byte-put_bytes_apart, put_bytes-set, put_byte-put_bytes_apart}
 
 -- ---- reads: a byte of each part, and four of them
@@ -28,12 +29,6 @@ unfolding of_parts
 byte_rom m s r q i e h =
     byte-put_bytes (put_bytes (put_bytes no_bytes 0 m) 0x1F800000 s) 0x1FC00000 r q (omega arith) (omega arith)
     ∙ ap (λ k. get_or r k 0) {x = q - 0x1FC00000} {y = i} (omega arith)
-
-pub word_of : (m : Memory) (q : ℕ) (xs : List ℕ) (i : ℕ)
-    → byte m q ≡ get_or xs i 0 → byte m (q + 1) ≡ get_or xs (i + 1) 0 → byte m (q + 2) ≡ get_or xs (i + 2) 0 → byte m (q + 3) ≡ get_or xs (i + 3) 0
-    → word_at xs i ≡ word m q
-unfolding word
-word_of m q xs i a b c d = sym (λ k. a k + b k * 2 ^ 8 + c k * 2 ^ 16 + d k * 2 ^ 24)
 
 pub word_main : (m s r : List ℕ) (q : ℕ) → length m ≤ 0x1F800000 → q + 4 ≤ length m → word_at m q ≡ word (of_parts m s r) q
 word_main m s r q l h =

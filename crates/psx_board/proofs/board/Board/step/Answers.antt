@@ -1,8 +1,10 @@
 use Rattle.std.proofs.Common.{◌≡◌, ℕ, ◌+◌, sym, ap, refl, ◌∙◌, arith}
 use Rattle.psx_cpu.specs.Views.{core_of}
 use Rattle.psx_board.specs.Delivery.{delivered}
-use Rattle.psx_board.specs.Turn.{asked, answered}
-use Rattle.psx_board.specs.Stands.{View}
+use Rattle.psx_board.specs.Machine.{Machine}
+use Rattle.psx_board.specs.Turn.{asked, answered, turn}
+use Rattle.psx_board.specs.Told.{told}
+use Rattle.psx_board.specs.Stands.{View, Stands, Turned}
 use Rattle.psx_board.specs.Finished.{finished}
 use Rattle.psx_board.proofs.Kernel.{step-counts}
 use Rattle.psx_board.proofs.Turning.{turned-step}
@@ -13,14 +15,21 @@ use Rattle.psx_board.proofs.board.Board.step.Goals as goal
 abbrev view : goal.After-keep → View
 view c = record { core = core_of c.step-did.new.self c.step-did.new.ram; devices = c.finish-did.new.devices; taken = c.finish-did.new.devices.count; stopped = c.keep.new.stopped }
 
-pub returns-clause-turns : goal.returns-clause-turns
-returns-clause-turns c m s =
+-- what it leaves, and what it tells
+made : (c : goal.After-keep) (m : Machine) → Stands c.args.self.now m → Turned m (turn m) c.finish-did.result (view c) × (c.finish-did.result ≡ told m)
+made c m s =
     let now = rw (← c.self.view_is) at s in
     let d = delivered m in
     let l = c.line-line.ensures d.history d.waiting now.devices in
     let f = c.finish-did.ensures.ended _ d.waiting (c.ask-value.ensures.carries d now.core l now.devices) in
     turned-step m (view c) _ c.line-line.result c.ask-value.result c.step-did.result c.finish-did.result now.core l (c.ask-value.ensures.value d now.core l now.devices) c.step-did.ensures.does
     (c.ask-value.ensures.same d (answered d.history (asked d)) now.core l) f refl c.keep.ensures
+
+pub returns-clause-turns : goal.returns-clause-turns
+returns-clause-turns c m s = (made c m s).0
+
+pub returns-clause-told : goal.returns-clause-told
+returns-clause-told c m s = (made c m s).1
 
 pub returns-clause-after : goal.returns-clause-after
 returns-clause-after c calls m a = one_more_step calls m c.args.self.now (view c) c.finish-did.result a c.requires.running (returns-clause-turns c)

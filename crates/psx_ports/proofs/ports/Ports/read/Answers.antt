@@ -1,6 +1,6 @@
 use Rattle.std.proofs.Common.{ℕ, List, ◌∷◌, sym, ap, subst, ◌∙◌, arith}
 use Rattle.std.proofs.lemmas.Bool.Decides.{nat_tests}
-use Rattle.psx_base.specs.declared.ports.TheConstants.{CONSOLE_DATA}
+use Rattle.psx_base.specs.Ports.{CONSOLE_DATA}
 use Rattle.psx_ports.specs.contracts.ports.Ports.{the_view}
 use Rattle.psx_ports.specs.History.{Read, then_event, answer, counters_answer, first_of}
 use Rattle.psx_ports.specs.Stands.{Kept, StandsFor, CountersStand}

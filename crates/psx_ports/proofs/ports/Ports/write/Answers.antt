@@ -1,6 +1,6 @@
 use Rattle.std.proofs.Common.{ℕ, ◌∷◌, rules, sym, subst, ◌∙◌, refl, arith}
 use Rattle.std.proofs.lemmas.Bool.Decides.{nat_tests}
-use Rattle.psx_base.specs.declared.ports.TheConstants.{I_STAT, I_MASK, CONSOLE_DATA, HALT}
+use Rattle.psx_base.specs.Ports.{I_STAT, I_MASK, CONSOLE_DATA, HALT}
 use Rattle.psx_ports.specs.contracts.ports.Ports.{the_view}
 use Rattle.psx_ports.specs.declared.interrupts.Interrupts.{Interrupts}
 use Rattle.psx_ports.specs.History.{Write, then_event}
