@@ -1,27 +1,18 @@
 -- An entry is read from its line, so a line is the line of one entry.
-use Rattle.std.proofs.Common.{◌≡◌, ℕ, ◌+◌, ◌*◌, ◌/◌, ◌%◌, ◌-◌, ◌^◌, ◌<◌, List, [], ◌∷◌, ◌++◌, drop, take, length, length-append, slice_index, cond, nat_lt, ◌==◌, codes, decimal, sym, ap, ◌∙◌, append_assoc, ⊎_elim, arith}
+use Rattle.std.proofs.Common.{◌≡◌, ℕ, ◌+◌, ◌*◌, ◌/◌, ◌%◌, ◌^◌, ◌<◌, List, [], ◌∷◌, ◌++◌, drop, take, length, length-append, slice_index, cond, ◌==◌, codes, decimal, sym, ap, ◌∙◌, append_assoc, ⊎_elim, arith}
 use Rattle.std.specs.Char.{is_ascii_digit}
 use Rattle.std.specs.List.{prefix_len}
 use Rattle.std.specs.Str.Parse.{digits_value}
-use Rattle.std.proofs.lemmas.Bool.Decides.{nat_tests}
 use Rattle.std.proofs.lemmas.Fmt.{decimal_is_IsNumeral, decimal_digit}
+use Rattle.psx_text.proofs.HexDigits.{digit_read, digit_read_is, decimal_read_is}
+use Rattle.psx_text.proofs.Numerals.{number_then}
 use Rattle.psx_sched.specs.declared.schedule.What.{What}
 use Rattle.psx_sched.specs.declared.schedule.What.TheVariants.{Byte, Line}
 use Rattle.psx_sched.specs.declared.schedule.Entry.{Entry}
 use Rattle.psx_sched.specs.Schedule.{IsLine}
-use Rattle.psx_sched.specs.Line.{hex_digit, what_text, line}
+use Rattle.psx_sched.specs.Line.{what_text, line}
 use Rattle.psx_sched.specs.Accepted.{IsByte, IsTold}
-use Rattle.psx_sched.proofs.Digits.{number_then, space_first}
-use Rattle.psx_sched.proofs.LineNumber.{digit_or_ten, decimal_ten}
-
-abbrev digit_read : ℕ → ℕ
-digit_read c = cond (nat_lt c 65) (c % 16) ((c - 55) % 16)
-
-digit_read_is : (d : ℕ) → d < 16 → digit_read (hex_digit d) ≡ d
-digit_read_is d small = grind (arith, nat_tests)
-
-decimal_read_is : (d : ℕ) → d < 10 → digit_read (48 + d) ≡ d
-decimal_read_is d small = grind (arith, nat_tests)
+use Rattle.psx_sched.proofs.LineNumber.{digit_or_ten, decimal_ten, space_first}
 
 abbrev what_read : List ℕ → What
 what_read t = cond (slice_index t 1 == 98) (Byte (digit_read (slice_index t 6) * 16 + digit_read (slice_index t 7)))

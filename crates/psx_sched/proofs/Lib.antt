@@ -1,5 +1,4 @@
 pub mod Ordered
-pub mod Digits
 pub mod LineNumber
 pub mod EntryReading
 pub mod SameEntries

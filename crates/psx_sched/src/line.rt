@@ -1,38 +1,16 @@
 //! The line of an entry.
 ghost use Rattle.std.specs.Prelude.{◌≡◌, ◌≤◌, ◌<◌, ◌+◌, ◌++◌, length};
 ghost use Rattle.arrayvec.specs.ArrayVec.{array_vec_len};
-ghost use Rattle.psx_sched.specs.Line.{hex_digit, what_text, line};
+ghost use Rattle.psx_sched.specs.Line.{what_text, line};
 ghost use Rattle.psx_sched.specs.Accepted.{IsByte};
 
 use crate::schedule::{Entry, What};
 use arrayvec::ArrayVec;
 use itoa::Buffer;
+use psx_text::{hex_digit, put};
 
 /// The bytes of a line. The line of any count and line number has at most 38.
 pub type EntryLine = ArrayVec<u8, 40>;
-
-// Appends bytes for which there is room.
-fn put(text: &mut EntryLine, bytes: &[u8])
-    requires { array_vec_len text.old + length bytes.now ≤ 40 }
-    ensures items { text.new.items ≡ text.old.items ++ bytes.now }
-    ensures len { array_vec_len text.new ≡ array_vec_len text.old + length bytes.now }
-{
-    if text.try_extend_from_slice(bytes).is_err() {
-        unreachable!();
-    }
-}
-
-// A digit below 16, with capitals.
-fn digit_of(digit: u8) -> u8
-    requires { digit < 16 }
-    ensures { result ≡ hex_digit digit }
-{
-    if digit < 10 {
-        b'0' + digit
-    } else {
-        b'A' - 10 + digit
-    }
-}
 
 // Appends what reaches the board.
 fn put_what(text: &mut EntryLine, what: What)
@@ -44,7 +22,8 @@ fn put_what(text: &mut EntryLine, what: What)
     match what {
         What::Byte(byte) => {
             put(text, b" byte ");
-            put(text, &[digit_of(byte / 16), digit_of(byte % 16)]);
+            let number = byte as u32;
+            put(text, &[hex_digit(number / 16), hex_digit(number % 16)]);
         }
         What::Line(number) => {
             put(text, b" line ");

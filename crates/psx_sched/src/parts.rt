@@ -1,74 +1,11 @@
 //! What the line of an entry tells. Where no such line stands, each gives something: what is read is compared with its own line.
-ghost use Rattle.std.specs.Prelude.{◌≡◌, ◌≤◌, ◌<◌, ◌+◌, ◌*◌, ◌^◌, ℕ, List, ◌++◌, codes, length, drop, take, decimal, slice_index};
-ghost use Rattle.std.specs.Char.{is_ascii_digit};
-ghost use Rattle.std.specs.List.{prefix_len};
+ghost use Rattle.std.specs.Prelude.{◌≡◌, ◌≤◌, ◌<◌, ℕ, List, ◌++◌, codes, decimal, slice_index};
 ghost use Rattle.psx_sched.specs.declared.schedule.Entry.{Entry};
 ghost use Rattle.psx_sched.specs.Accepted.{IsTold};
-ghost use Rattle.psx_sched.specs.Line.{hex_digit, two_digits, line};
+ghost use Rattle.psx_sched.specs.Line.{two_digits, line};
 
 use crate::schedule::{Entry, What};
-use std::str;
-
-// The bytes from a place on.
-pub(crate) fn skip(text: &[u8], count: usize) -> &[u8]
-    ensures { result.now ≡ drop count text.now }
-{
-    if count <= text.len() {
-        &text[count..]
-    } else {
-        &[]
-    }
-}
-
-// The first bytes of a text.
-fn front(text: &[u8], count: usize) -> &[u8]
-    ensures { result.now ≡ take count text.now }
-{
-    if count <= text.len() {
-        &text[..count]
-    } else {
-        text
-    }
-}
-
-// The byte at a place.
-fn byte_at(text: &[u8], at: usize) -> u8
-    ensures { result ≡ slice_index text.now at }
-{
-    if at < text.len() { text[at] } else { 0 }
-}
-
-// A digit below 16 by its byte.
-fn digit_value(byte: u8) -> u8
-    ensures below { result < 16 }
-    ensures digit { (d : ℕ) → d < 16 → byte ≡ hex_digit d → result ≡ d }
-{
-    if byte < 65 {
-        byte % 16
-    } else {
-        (byte - 55) % 16
-    }
-}
-
-// How many decimal digits a text begins with.
-fn digits_len(text: &[u8]) -> usize
-    ensures { result ≡ prefix_len is_ascii_digit text.now }
-{
-    text.iter().take_while(|byte| byte.is_ascii_digit()).count()
-}
-
-// The number that decimal digits write.
-fn count_of(digits: &[u8]) -> u64
-    ensures { (n : ℕ) → n < 2 ^ 64 → digits.now ≡ decimal n → result ≡ n }
-{
-    let Ok(numeral) = str::from_utf8(digits) else {
-        return 0;
-    };
-    match numeral.parse::<u64>() {
-        Ok(count) => count,
-        Err(_) => 0,
-    }
-}
+use psx_text::{byte_at, count_of, digit_value, digits_len, front, skip};
 
 // What reaches the board, by what stands behind a line's count.
 fn what_of(fields: &[u8]) -> What

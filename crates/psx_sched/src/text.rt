@@ -8,9 +8,10 @@ ghost use Rattle.psx_sched.specs.declared.fault.SchedError.{SchedError};
 
 use crate::fault::{LONGEST, MOST, SchedError};
 use crate::line::line_of;
-use crate::parts::{candidate, skip};
+use crate::parts::candidate;
 use crate::schedule::{Entry, Schedule, What};
 use psx_base::Memory;
+use psx_text::skip;
 use std::alloc::Global;
 
 // Whether a schedule may hold an entry.

@@ -4,7 +4,8 @@ use Rattle.psx_sched.specs.declared.schedule.What.TheVariants.{Byte, Line}
 use Rattle.psx_sched.specs.Schedule.{IsLine}
 use Rattle.psx_sched.specs.Accepted.{IsByte}
 use Rattle.psx_sched.specs.Line.{two_digits, what_text}
-use Rattle.psx_sched.proofs.Digits.{number_then, space_first}
+use Rattle.psx_text.proofs.Numerals.{number_then}
+use Rattle.psx_sched.proofs.LineNumber.{space_first}
 use Rattle.psx_sched.proofs.parts.candidate.Goals as goal
 
 same_what : (what found : What) (fields rest : List ℕ)

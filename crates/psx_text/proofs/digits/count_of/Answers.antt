@@ -2,7 +2,7 @@ use Rattle.std.proofs.Common.{◌∙◌, sym, subst}
 use Rattle.std.specs.Str.{IsUtf8}
 use Rattle.std.proofs.lemmas.Fmt.{IsAscii-decimal, parse-decimal}
 use Rattle.std.proofs.lemmas.Str.{IsUtf8-from_ascii}
-use Rattle.psx_sched.proofs.parts.count_of.Goals as goal
+use Rattle.psx_text.proofs.digits.count_of.Goals as goal
 
 pub returns-in_default : goal.returns-in_default
 returns-in_default c n small e =

@@ -1,5 +1,5 @@
--- The number that stands at the beginning of a text.
-use Rattle.std.proofs.Common.{◌≡◌, ℕ, ◌+◌, ◌<◌, ◌≤◌, ◌^◌, List, [], ◌∷◌, ◌++◌, length, drop, take, slice_index, decimal, true, false, cond, refl, ap, ◌∙◌, lit<, arith}
+-- The decimal number that stands at the beginning of a text.
+use Rattle.std.proofs.Common.{◌≡◌, ℕ, ◌+◌, ◌<◌, ◌≤◌, ◌^◌, List, [], ◌∷◌, ◌++◌, length, drop, take, slice_index, decimal, true, false, cond, refl, ap, ◌∙◌, arith}
 use Rattle.std.specs.Char.{is_ascii_digit}
 use Rattle.std.specs.List.{prefix_len}
 use Rattle.std.specs.Str.Parse.{AllDigits}
@@ -7,9 +7,6 @@ use Rattle.std.proofs.lemmas.Bool.Decides.{nat_tests}
 use Rattle.std.proofs.lemmas.Fmt.{decimal_is_IsNumeral}
 use Rattle.std.proofs.lemmas.Str.Parse.{digit_from_value}
 use Rattle.std.proofs.Math.Seq.{take-append_seam, drop-append_seam}
-use Rattle.psx_sched.specs.declared.schedule.What.{What}
-use Rattle.psx_sched.specs.declared.schedule.What.TheVariants.{Byte, Line}
-use Rattle.psx_sched.specs.Line.{what_text}
 
 is_digit : (c : ℕ) → 48 ≤ c → c ≤ 57 → is_ascii_digit c ≡ true
 is_digit c low high = grind (arith, nat_tests)
@@ -33,8 +30,3 @@ pub number_then : (text : List ℕ) (n : ℕ) (after : List ℕ) → n < 2 ^ 64 
 number_then text n after small low e =
     let len : prefix_len is_ascii_digit text ≡ length (decimal n) = ap (prefix_len is_ascii_digit) e ∙ digits_then (decimal n) after (decimal_is_IsNumeral n small).0.1 low in
     ((λ i. take (len i) (e i)) ∙ take-append_seam (decimal n) after, (λ i. drop (len i) (e i)) ∙ drop-append_seam (decimal n) after)
-
--- no digit stands behind a line's count
-pub space_first : (what : What) (rest : List ℕ) → slice_index (what_text what ++ rest) 0 < 48
-space_first (Byte b) rest = lit< tt
-space_first (Line n) rest = lit< tt
