@@ -1,6 +1,6 @@
 //! The assembler: a text of assembly language gives bytes at addresses, or its first fault.
 //! It meets the definition of assembly, by lines and sizes (`specs/Assembly.antt`: `IsAssemblyOf`).
-//! The top call's command `asm` is to make a program of its objects, and the printer's law to speak of its definition.
+//! The top call's command `asm` makes a program of its objects, and the printer's law speaks of its definition.
 #![tactic(auto)]
 
 mod assembly;

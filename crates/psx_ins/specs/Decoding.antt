@@ -1,5 +1,5 @@
 -- How a word is taken apart: the opcode table read from the word's side (R3000A manual, opcode bit encoding).
--- Only private contracts cite it: `Words` says what is promised.
+-- The processor's guard and the printed form are said by it. It gives an instruction exactly where the table of `Words` gives that instruction the word: `decode` says so (`found`, `none`, `exact`).
 use Rattle.std.specs.Prelude.{ℕ, ◌+◌, ◌/◌, ◌%◌, ◌^◌, nat_eq, Option, Some, None, if◌then◌else◌}
 use Rattle.psx_ins.specs.declared.reg.Reg.{Reg}
 use Rattle.psx_ins.specs.declared.ins.Ins.{Ins}

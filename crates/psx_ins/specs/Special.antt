@@ -1,5 +1,5 @@
 -- How a word of op 00h is taken apart: the opcode table read from the word's side (R3000A manual, opcode bit encoding).
--- Only private contracts cite it: `Words` says what is promised.
+-- `Decoding` has the other ops, and says by what it is fixed.
 use Rattle.std.specs.Prelude.{ℕ, ◌+◌, ◌*◌, nat_eq, Option, Some, None, if◌then◌else◌}
 use Rattle.psx_ins.specs.declared.reg.Reg.{Reg}
 use Rattle.psx_ins.specs.declared.ins.Ins.{Ins}
