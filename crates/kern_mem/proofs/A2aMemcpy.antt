@@ -57,7 +57,7 @@ record Head (stay : Stay) (s : KernelState) (a b n m flag second k : ℕ) (e : R
   memory : Memory
   holds : Holds (now s memory) e.bytes
   most : ℕ
-  left : Left stay (copy_bytes k (now s memory) e.regs.r9 e.regs.r8 (done b)) most
+  left : Left most_nodes stay (copy_bytes k (now s memory) e.regs.r9 e.regs.r8 (done b)) most
   within : e.passed + 10 ≤ most
   quiet : ports e.seen ≡ []
   r4 : e.regs.r4 ≡ b
@@ -145,7 +145,7 @@ serves s d z m h =
         λ ns. (
           λ few. through (memcpy s) most_nodes _ _ refl (answers most_nodes s _ (memcpy s) (begins s 0 nd ns (no_count n few)) h.holds (omega arith)),
           λ pos.
-              let l : Left (memcpy s) (copy_bytes n s b a (done b)) most_nodes = left_is (memcpy s) (memcpy s) (copy_bytes n s b a (done b)) most_nodes (begins s n nd ns (a_count n pos.1)) (left_all (memcpy s)) in
+              let l : Left most_nodes (memcpy s) (copy_bytes n s b a (done b)) most_nodes = left_is (memcpy s) (memcpy s) (copy_bytes n s b a (done b)) most_nodes (begins s n nd ns (a_count n pos.1)) (left_all (memcpy s)) in
               know.room _ _ _ _ _ _ _ small_b (λ x y p up. know.room _ _ _ _ _ _ _ small_a (λ f g q more. (
                 λ nz.
                     let flag : ℕ = truth (nat_lt (room b) n) in
