@@ -5,8 +5,8 @@ ghost use Rattle.kern_stay.specs.Words.{overlaid};
 ghost use Rattle.kern_file.specs.FileWords.{file_pieces};
 ghost use Rattle.kern_file.specs.FileLaws.{FileServes};
 
-use crate::places::{PUTS, PUTS_LOOP, ROOM};
-use crate::a3e_puts;
+use crate::places::{PUTCHAR, PUTS, PUTS_LOOP, ROOM};
+use crate::{a3c_putchar, a3e_puts};
 use kern_layout::KernelBlock;
 use kern_stay::placing::put_listing;
 use kern_stay::room::ROOM_NODES;
@@ -15,6 +15,7 @@ use kern_stay::room::ROOM_NODES;
 pub fn place(block: &mut KernelBlock)
     ensures { (f : ℕ → ℕ) → IsBlock block.old f → IsBlock block.new (overlaid file_pieces f) }
 {
+    put_listing(block, PUTCHAR, &a3c_putchar::NODES);
     put_listing(block, ROOM, &ROOM_NODES);
     put_listing(block, PUTS_LOOP, &a3e_puts::LOOP_NODES);
     put_listing(block, PUTS, &a3e_puts::NODES);

@@ -57,7 +57,7 @@ record Head (stay : Stay) (s : KernelState) (a b n m flag second k : ℕ) (e : R
   memory : Memory
   holds : Holds (now s memory) e.bytes
   most : ℕ
-  left : Left stay (copy_bytes k (now s memory) e.regs.r9 e.regs.r8 (done b)) most
+  left : Left most_nodes stay (copy_bytes k (now s memory) e.regs.r9 e.regs.r8 (done b)) most
   within : e.passed + 10 ≤ most
   quiet : ports e.seen ≡ []
   r4 : e.regs.r4 ≡ b
@@ -145,26 +145,26 @@ serves s d z m h =
         λ ns. (
           λ few. through (memcpy s) most_nodes _ _ refl (answers most_nodes s _ (memcpy s) (begins s 0 nd ns (no_count n few)) h.holds (omega arith)),
           λ pos.
-              let l : Left (memcpy s) (copy_bytes n s b a (done b)) most_nodes = left_is (memcpy s) (memcpy s) (copy_bytes n s b a (done b)) most_nodes (begins s n nd ns (a_count n pos.1)) (left_all (memcpy s)) in
-              know.room _ _ _ _ _ _ _ small_b (λ x y p up. know.room _ _ _ _ _ _ _ small_a (λ x y p up. (
+              let l : Left most_nodes (memcpy s) (copy_bytes n s b a (done b)) most_nodes = left_is (memcpy s) (memcpy s) (copy_bytes n s b a (done b)) most_nodes (begins s n nd ns (a_count n pos.1)) (left_all (memcpy s)) in
+              know.room _ _ _ _ _ _ _ small_b (λ x y p up. know.room _ _ _ _ _ _ _ small_a (λ f g q more. (
                 λ nz.
                     let flag : ℕ = truth (nat_lt (room b) n) in
                     let less = true_then (room b) (room a) nz in (
-                      λ z. loops C know (memcpy s) s h.valid a b n n flag second (pair_all a b n flag second small_a small_b z (let f = false_then (room b) n z in omega (arith, f, less)) (false_then (room b) n z)) _
+                      λ enough. loops C know (memcpy s) s h.valid a b n n flag second (pair_all a b n flag second small_a small_b enough (let fits = false_then (room b) n enough in omega (arith, fits, less)) (false_then (room b) n enough)) _
                       record { memory = s.memory; holds = h.holds; most = most_nodes; left = l; within = omega arith; quiet = refl; r4 = refl; r10 = refl; r11 = refl; r13 = refl; cursors = record { first = refl; other = refl; most = omega arith; room = omega arith } },
                       λ ne.
-                          let p = pair_other a b n flag second small_a small_b ne nz (true_then (room b) n ne) less in
-                          loops C know (memcpy s) s h.valid a b n (room b) flag second p _
+                          let bad = pair_other a b n flag second small_a small_b ne nz (true_then (room b) n ne) less in
+                          loops C know (memcpy s) s h.valid a b n (room b) flag second bad _
                           record { memory = s.memory; holds = h.holds; most = most_nodes; left = l; within = omega arith; quiet = refl; r4 = refl; r10 = refl; r11 = refl; r13 = refl; cursors = record { first = refl; other = refl; most = omega arith; room = omega arith } },
                     ),
                 λ z.
                     let flag : ℕ = truth (nat_lt (room a) n) in
                     let le = false_then (room b) (room a) z in (
-                      λ q. loops C know (memcpy s) s h.valid a b n n flag second (pair_all a b n flag second small_a small_b q (false_then (room a) n q) (let f = false_then (room a) n q in omega (arith, f, le))) _
+                      λ enough. loops C know (memcpy s) s h.valid a b n n flag second (pair_all a b n flag second small_a small_b enough (false_then (room a) n enough) (let fits = false_then (room a) n enough in omega (arith, fits, le))) _
                       record { memory = s.memory; holds = h.holds; most = most_nodes; left = l; within = omega arith; quiet = refl; r4 = refl; r10 = refl; r11 = refl; r13 = refl; cursors = record { first = refl; other = refl; most = omega arith; room = omega arith } },
                       λ ne.
-                          let p = pair_first a b n flag second small_a small_b ne z (true_then (room a) n ne) le in
-                          loops C know (memcpy s) s h.valid a b n (room a) flag second p _
+                          let bad = pair_first a b n flag second small_a small_b ne z (true_then (room a) n ne) le in
+                          loops C know (memcpy s) s h.valid a b n (room a) flag second bad _
                           record { memory = s.memory; holds = h.holds; most = most_nodes; left = l; within = omega arith; quiet = refl; r4 = refl; r10 = refl; r11 = refl; r13 = refl; cursors = record { first = refl; other = refl; most = omega arith; room = omega arith } },
                     ),
               ))),

@@ -44,7 +44,7 @@ record Head (stay : Stay) (s : KernelState) (m : Memory) (a n stop k : ℕ) (e :
   count : ℕ
   counted : e.regs.r8 ≡ a + count
   most : ℕ
-  left : Left stay (count_bytes fuel s e.regs.r8 count) most
+  left : Left most_nodes stay (count_bytes fuel s e.regs.r8 count) most
   within : e.passed + 10 ≤ most
   bytes : e.bytes ≡ m
   quiet : ports e.seen ≡ []
@@ -98,7 +98,7 @@ serves s d z m h =
     start C know.fair (tree NODES) STRLEN (λ _. ⊥) (λ to e. Through (strlen s) most_nodes to e) (begun (called_with (registers_of s) d) z m) (
       λ none. through (strlen s) most_nodes _ _ refl (answers most_nodes s _ (strlen s) (null a (answered s 0) (count_bytes longest s a 0) none) h.holds (omega arith)),
       λ some.
-          let l : Left (strlen s) (count_bytes longest s a 0) most_nodes = left_is (strlen s) (strlen s) (count_bytes longest s a 0) most_nodes (not_null a (answered s 0) (count_bytes longest s a 0) some) (left_all (strlen s)) in
+          let l : Left most_nodes (strlen s) (count_bytes longest s a 0) most_nodes = left_is (strlen s) (strlen s) (count_bytes longest s a 0) most_nodes (not_null a (answered s 0) (count_bytes longest s a 0) some) (left_all (strlen s)) in
           know.room _ _ _ _ _ _ _ small (λ x y p up.
           while C know.fair (Differ (r 8) (r 11)) turn_tree 0 _ _ ℕ (λ i. i) (Head (strlen s) s m a n ((a + room a) % 2 ^ 32)) (turn C know (strlen s) s m h.holds a n ((a + room a) % 2 ^ 32) sp) n _
           record { fuel = longest; some = few; count = 0; counted = omega arith; most = most_nodes; left = l; within = omega arith; bytes = refl; quiet = refl; r4 = refl; r11 = refl; cursor = record { low = omega arith; high = sp.low; count = refl } }),
