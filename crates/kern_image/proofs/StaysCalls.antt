@@ -4,13 +4,13 @@ use Rattle.std.specs.Prelude.{unwrap_or, if◌then◌else◌}
 use Rattle.psx_base.specs.Memory.{Memory, word}
 use Rattle.kern_layout.specs.Stands.{HoldsRom}
 use Rattle.abs_kernel.specs.declared.calls.CallId.{CallId}
-use Rattle.abs_kernel.specs.declared.calls.CallId.TheVariants.{A06, A3A, A3C, B38, B3D}
+use Rattle.abs_kernel.specs.declared.calls.CallId.TheVariants.{A06, A3A, B38}
 use Rattle.abs_kernel.specs.Calls.{call}
 use Rattle.abs_kernel.specs.CallTable.{same_call}
 use Rattle.kern_stay.specs.Doors.{most_nodes}
 use Rattle.kern_stay.specs.Served.{EachAt, AllServed}
-use Rattle.kern_entry.specs.declared.places.TheConstants.{EXIT, PUTCHAR}
-use Rattle.kern_entry.proofs.Joins.{exit_called, putchar_called}
+use Rattle.kern_entry.specs.declared.places.TheConstants.{EXIT}
+use Rattle.kern_entry.proofs.Joins.{exit_called}
 use Rattle.kern_mem.specs.MemLaws.{mem_calls}
 use Rattle.kern_mem.proofs.Served.{mem_serves}
 use Rattle.kern_file.specs.FileLaws.{file_calls}
@@ -47,7 +47,7 @@ each_both P (p ∷ ps) qs h g = (h.0, each_both P ps qs h.1 g)
 
 -- those of the entry's crate
 abbrev entry_calls : List (CallId × ℕ)
-entry_calls = (A06, EXIT) ∷ (A3A, EXIT) ∷ (A3C, PUTCHAR) ∷ (B38, EXIT) ∷ (B3D, PUTCHAR) ∷ []
+entry_calls = (A06, EXIT) ∷ (A3A, EXIT) ∷ (B38, EXIT) ∷ []
 
 -- crate by crate
 abbrev all_calls : List (CallId × ℕ)
@@ -63,10 +63,7 @@ module _ (m : Memory) (code : HoldsRom m rom) where
   ServingAt id at = Serving rom m (holds_entry m code) code (call id) at
 
   by_entry : EachAt ServingAt entry_calls
-  by_entry =
-      let exit = λ (id : CallId). by_own rom m (holds_entry m code) code (call A06) EXIT exit_called in
-      let putchar = by_own rom m (holds_entry m code) code (call A3C) PUTCHAR putchar_called in
-      (exit A06, (exit A3A, (putchar, (exit B38, (putchar, tt)))))
+  by_entry = let exit = by_own rom m (holds_entry m code) code (call A06) EXIT exit_called in (exit, (exit, (exit, tt)))
 
   by_crate : (ps : List (CallId × ℕ)) → AllServed m most_nodes ps → EachAt ServingAt ps
   by_crate [] h = tt
