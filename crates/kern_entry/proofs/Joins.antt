@@ -8,7 +8,7 @@ use Rattle.psx_cpu.specs.Processor.{Cop0}
 use Rattle.psx_flow.specs.Run.{Run}
 use Rattle.psx_flow.specs.Kernel.{kernel_words}
 use Rattle.psx_flow.specs.Reaches.{Keeps}
-use Rattle.psx_base.specs.declared.stop.Stop.TheVariants.{Exit, BadPointer}
+use Rattle.psx_base.specs.declared.stop.Stop.TheVariants.{Exit, BadPointer, BadThread, Deep}
 use Rattle.abs_kernel.specs.Stay.{Stay, Return, Halt}
 use Rattle.abs_kernel.specs.Exits.{exits}
 use Rattle.abs_kernel.specs.Putchar.{putchar}
@@ -17,11 +17,11 @@ use Rattle.kern_entry.specs.declared.places.TheConstants.{EXIT, PUTCHAR}
 use Rattle.kern_entry.specs.Within.{Aim}
 use Rattle.kern_entry.specs.Made.{Made}
 use Rattle.abs_kernel.specs.Answered.{with_running, with_answer}
-use Rattle.kern_entry.specs.EntryLaws.{KeepsRest, HoldsContext, LeaveReturns, WaitReturns, WorkReturns, BadPointerStops, OwnCalls}
+use Rattle.kern_entry.specs.EntryLaws.{KeepsRest, HoldsContext, LeaveReturns, WaitReturns, WorkReturns, BadPointerStops, BadThreadStops, DeepStops, OwnCalls}
 use Rattle.kern_entry.proofs.WorkArea.{Holds}
 use Rattle.kern_entry.proofs.Placed.{all_placed}
 use Rattle.kern_entry.proofs.Returning.{back_to}
-use Rattle.kern_entry.proofs.Stages.{leave_shown, work_shown, resume_shown, bad_pointer_shown, exit_shown, putchar_shown}
+use Rattle.kern_entry.proofs.Stages.{leave_shown, work_shown, resume_shown, bad_pointer_shown, bad_thread_shown, deep_shown, exit_shown, putchar_shown}
 
 -- a context with nothing pending, taken up at an address
 taken_back : (x : Context) (at : ℕ) → x.pending ≡ None → taken x at ≡ back_to x.regs at
@@ -77,6 +77,19 @@ bad_pointer_stops regs z m u t off h =
     let stay : Stay = Halt (BadPointer regs.r8 x.regs.r31) u in
     bad_pointer_shown m (all_placed m h.words) stay (Made m stay) (λ k q y. y) x.regs x.pc t.interrupts [] regs.r8 (begun regs z m) (keeps regs z m off) (holds regs z m t h) refl
     (record { stop = BadPointer regs.r8 x.regs.r31; memory = u; follows = ((tt, refl), refl); is = refl; stops = λ a b c. refl }) 282 (omega arith)
+
+pub bad_thread_stops : BadThreadStops
+bad_thread_stops regs z m u t off h =
+    let x : Context = t.context in
+    let stay : Stay = Halt (BadThread regs.r8 x.regs.r31) u in
+    bad_thread_shown m (all_placed m h.words) stay (Made m stay) (λ k q y. y) x.regs x.pc t.interrupts [] regs.r8 (begun regs z m) (keeps regs z m off) (holds regs z m t h) refl
+    (record { stop = BadThread regs.r8 x.regs.r31; memory = u; follows = ((tt, refl), refl); is = refl; stops = λ a b c. refl }) 282 (omega arith)
+
+pub deep_stops : DeepStops
+deep_stops regs z m u off h =
+    let stay : Stay = Halt (Deep regs.r31) u in
+    deep_shown m (all_placed m h) stay (Made m stay) (λ k q y. y) [] regs.r31 (begun regs z m) (keeps regs z m off) (λ a o. refl) refl (omega arith) refl
+    (record { stop = Deep regs.r31; memory = u; follows = (tt, refl); is = refl; stops = λ a b c. refl }) 282 (omega arith)
 
 -- exit and putchar
 abbrev starts : Registers → Cop0 → Memory → Run

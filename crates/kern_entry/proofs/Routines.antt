@@ -8,9 +8,9 @@ use Rattle.psx_flow.specs.Told.{ports}
 use Rattle.psx_flow.proofs.Log.{KernelWord}
 use Rattle.kern_layout.specs.Fields.{Block}
 use Rattle.kern_layout.specs.Contexts.{saved, saved_sr_of}
-use Rattle.kern_entry.specs.declared.places.TheConstants.{UNSERVED, EXCEPTION, EXIT, DONE, BACK, PUTCHAR, SYSCALLS, LEAVE, BEHIND, BAD_POINTER}
+use Rattle.kern_entry.specs.declared.places.TheConstants.{UNSERVED, EXCEPTION, EXIT, DONE, BACK, PUTCHAR, SYSCALLS, LEAVE, BEHIND, BAD_POINTER, BAD_THREAD, DEEP}
 use Rattle.kern_entry.specs.declared.calls.TheConstants.{EXIT_NODES, PUTCHAR_NODES}
-use Rattle.kern_entry.specs.declared.stops.TheConstants.{UNSERVED_NODES, EXCEPTION_NODES, DONE_NODES, BACK_NODES, BAD_POINTER_NODES}
+use Rattle.kern_entry.specs.declared.stops.TheConstants.{UNSERVED_NODES, EXCEPTION_NODES, DONE_NODES, BACK_NODES, BAD_POINTER_NODES, BAD_THREAD_NODES, DEEP_NODES}
 use Rattle.kern_entry.specs.declared.sys.TheConstants.{SYSCALLS_NODES}
 use Rattle.kern_entry.specs.EntryWords.{tree}
 use Rattle.kern_entry.specs.Made.{Spared}
@@ -76,6 +76,12 @@ module _ (c : Registers) (z : Cop0) (on : Bool) (m : Memory) (p : List Access) (
       start (calls kernel_words []) (fair kernel_words []) (tree EXCEPTION_NODES) EXCEPTION (λ e. Stops 2 (PortWrite HALT_B z.epc ∷ PortWrite HALT_A code ∷ p) m more e) (λ _ _. ⊥) s
       (λ line. record { rest = _; seen = refl; told = (λ i. PortWrite HALT_B ((h.cop0 i).epc) ∷ PortWrite HALT_A (coded line i) ∷ h.holds.ports i); spared = h.holds.spared; within = omega arith })
 
+-- a frame too many
+pub deep_meets : (m : Memory) (p : List Access) (v more : ℕ) (s : Run) → Spared m s.bytes → ports s.seen ≡ p → s.regs.r31 ≡ v → s.passed + 10 ≤ more → Meets kernel_words (calls kernel_words []) (tree DEEP_NODES) DEEP (λ e. Stops 6 (PortWrite HALT_A v ∷ p) m more e) (λ _ _. ⊥) s
+deep_meets m p v more s spared told e few =
+    start (calls kernel_words []) (fair kernel_words []) (tree DEEP_NODES) DEEP (λ e. Stops 6 (PortWrite HALT_A v ∷ p) m more e) (λ _ _. ⊥) s
+    (record { rest = _; seen = refl; told = (λ i. PortWrite HALT_A (e i) ∷ told i); spared = spared; within = omega arith })
+
 -- from a context in the work area
 module _ (c : Registers) (pc : ℕ) (on : Bool) (m : Memory) (p : List Access) (most more : ℕ) (s : Run) (h : Holds c pc on m p most s) (few : most + 30 ≤ more) where
   pub putchar_meets : s.regs.r4 ≡ c.r4 → Meets kernel_words (calls kernel_words []) (tree PUTCHAR_NODES) PUTCHAR (λ _. ⊥) (λ to e. Answers (c.r4 % 2 ^ 8) c pc on m (PortWrite CONSOLE_DATA c.r4 ∷ p) more to e) s
@@ -94,6 +100,14 @@ module _ (c : Registers) (pc : ℕ) (on : Bool) (m : Memory) (p : List Access) (
       let within = h.within in
       let r31 = area_r31 s.bytes c pc on h.area in
       start (calls kernel_words []) (fair kernel_words []) (tree BAD_POINTER_NODES) BAD_POINTER (λ e. Stops 4 (PortWrite HALT_B c.r31 ∷ PortWrite HALT_A v ∷ p) m more e) (λ _ _. ⊥) s
+      (record { rest = _; seen = refl; told = (λ i. PortWrite HALT_B (r31 i) ∷ PortWrite HALT_A (r8 i) ∷ h.ports i); spared = h.spared; within = omega arith })
+
+  -- a handle that names no thread
+  pub bad_thread_meets : (v : ℕ) → s.regs.r8 ≡ v → Meets kernel_words (calls kernel_words []) (tree BAD_THREAD_NODES) BAD_THREAD (λ e. Stops 5 (PortWrite HALT_B c.r31 ∷ PortWrite HALT_A v ∷ p) m more e) (λ _ _. ⊥) s
+  bad_thread_meets v r8 =
+      let within = h.within in
+      let r31 = area_r31 s.bytes c pc on h.area in
+      start (calls kernel_words []) (fair kernel_words []) (tree BAD_THREAD_NODES) BAD_THREAD (λ e. Stops 5 (PortWrite HALT_B c.r31 ∷ PortWrite HALT_A v ∷ p) m more e) (λ _ _. ⊥) s
       (record { rest = _; seen = refl; told = (λ i. PortWrite HALT_B (r31 i) ∷ PortWrite HALT_A (r8 i) ∷ h.ports i); spared = h.spared; within = omega arith })
 
 -- ---- the SYSCALLs, by r4

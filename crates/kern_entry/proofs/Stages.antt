@@ -17,16 +17,16 @@ use Rattle.psx_flow.specs.Meets.{Goal, Meets, calls}
 use Rattle.psx_flow.specs.Reaches.{IsPlaced, Keeps}
 use Rattle.kern_layout.specs.Stands.{user_sr}
 use Rattle.abs_kernel.specs.Stay.{Stay, Return, Halt}
-use Rattle.kern_entry.specs.declared.places.TheConstants.{LEAVE, BEHIND, RESUME, WORK, EXIT, DONE, BACK, UNSERVED, EXCEPTION, PUTCHAR, BAD_POINTER}
+use Rattle.kern_entry.specs.declared.places.TheConstants.{LEAVE, BEHIND, RESUME, WORK, EXIT, DONE, BACK, UNSERVED, EXCEPTION, PUTCHAR, BAD_POINTER, BAD_THREAD, DEEP}
 use Rattle.kern_entry.specs.declared.calls.TheConstants.{EXIT_NODES, PUTCHAR_NODES}
-use Rattle.kern_entry.specs.declared.stops.TheConstants.{UNSERVED_NODES, EXCEPTION_NODES, DONE_NODES, BACK_NODES, BAD_POINTER_NODES}
+use Rattle.kern_entry.specs.declared.stops.TheConstants.{UNSERVED_NODES, EXCEPTION_NODES, DONE_NODES, BACK_NODES, BAD_POINTER_NODES, BAD_THREAD_NODES, DEEP_NODES}
 use Rattle.kern_entry.specs.declared.leave.TheConstants.{LEAVE_NODES, BEHIND_NODES, RESUME_NODES, WORK_NODES, RETURN}
 use Rattle.kern_entry.specs.EntryWords.{tree}
 use Rattle.kern_entry.specs.Within.{Aim, Within}
 use Rattle.kern_entry.specs.Made.{after, Follows, given, IsBack, Leaving, Returned, Halted, Spared, Made}
 use Rattle.kern_entry.proofs.Walk.{walk_placed, within_backs, within_here}
 use Rattle.kern_entry.proofs.WorkArea.{Holds, Entered}
-use Rattle.kern_entry.proofs.Routines.{Stops, Answers, Exits, exit_meets, done_meets, back_meets, unserved_meets, exception_meets, putchar_meets, bad_pointer_meets}
+use Rattle.kern_entry.proofs.Routines.{Stops, Answers, Exits, exit_meets, done_meets, back_meets, unserved_meets, exception_meets, putchar_meets, bad_pointer_meets, bad_thread_meets, deep_meets}
 use Rattle.kern_entry.proofs.Leaving.{Resumed, leave_meets, behind_meets, work_meets, resume_meets}
 use Rattle.kern_entry.proofs.Returning.{back_to, Back, return_from}
 use Rattle.kern_stay.proofs.Telling.{after_ports, follows_ports, given_ports}
@@ -174,3 +174,10 @@ module _ (m : Memory) (all : AllPlaced m) (stay : Stay) (Z : Aim) (aimed : (k : 
   pub bad_pointer_shown : (c : Registers) (pc : ℕ) (on : Bool) (p : List Access) (v : ℕ) (s : Run) → Keep s → Holds c pc on m p 130 s → s.regs.r8 ≡ v → HaltsBy stay 4 (PortWrite HALT_B c.r31 ∷ PortWrite HALT_A v ∷ p) → Show s BAD_POINTER
   bad_pointer_shown c pc on p v s ks h e stop =
       stops_here (tree BAD_POINTER_NODES) BAD_POINTER 4 (PortWrite HALT_B c.r31 ∷ PortWrite HALT_A v ∷ p) s all.bad_pointer ks stop (bad_pointer_meets c pc on m p 130 200 s h (omega arith) v e)
+
+  pub bad_thread_shown : (c : Registers) (pc : ℕ) (on : Bool) (p : List Access) (v : ℕ) (s : Run) → Keep s → Holds c pc on m p 130 s → s.regs.r8 ≡ v → HaltsBy stay 5 (PortWrite HALT_B c.r31 ∷ PortWrite HALT_A v ∷ p) → Show s BAD_THREAD
+  bad_thread_shown c pc on p v s ks h e stop =
+      stops_here (tree BAD_THREAD_NODES) BAD_THREAD 5 (PortWrite HALT_B c.r31 ∷ PortWrite HALT_A v ∷ p) s all.bad_thread ks stop (bad_thread_meets c pc on m p 130 200 s h (omega arith) v e)
+
+  pub deep_shown : (p : List Access) (v : ℕ) (s : Run) → Keep s → Spared m s.bytes → ports s.seen ≡ p → s.passed ≤ 130 → s.regs.r31 ≡ v → HaltsBy stay 6 (PortWrite HALT_A v ∷ p) → Show s DEEP
+  deep_shown p v s ks spared told few e stop = stops_here (tree DEEP_NODES) DEEP 6 (PortWrite HALT_A v ∷ p) s all.deep ks stop (deep_meets m p v 200 s spared told e (omega (arith, few)))

@@ -11,14 +11,14 @@ use Rattle.kern_layout.specs.Numbers.{work_area}
 use Rattle.kern_layout.specs.Fields.{Block}
 use Rattle.kern_layout.specs.Contexts.{saved}
 use Rattle.kern_layout.specs.Stands.{user_sr}
-use Rattle.psx_base.specs.declared.stop.Stop.TheVariants.{BadPointer}
+use Rattle.psx_base.specs.declared.stop.Stop.TheVariants.{BadPointer, BadThread, Deep}
 use Rattle.psx_flow.specs.Run.{Access}
 use Rattle.psx_flow.specs.Told.{ports}
 use Rattle.abs_kernel.specs.declared.calls.CallId.{CallId}
 use Rattle.abs_kernel.specs.Stay.{Stay, Return, Halt}
 use Rattle.abs_kernel.specs.StayLaws.{EachEnd}
 use Rattle.abs_kernel.specs.Calls.{call}
-use Rattle.kern_stay.specs.declared.places.TheConstants.{WAIT, BAD_POINTER}
+use Rattle.kern_stay.specs.declared.places.TheConstants.{WAIT, BAD_POINTER, BAD_THREAD, DEEP}
 use Rattle.kern_stay.specs.Doors.{called_with}
 use Rattle.abs_kernel.specs.Answered.{registers_of, with_answer}
 use Rattle.abs_kernel.specs.KernelStep.{settled_state, stay_of}
@@ -106,13 +106,23 @@ BadPointerStops =
     (regs : Registers) (z : Cop0) (m u : Memory) (t : ThreadContext) → z.sr % 2 ≡ 0 → HoldsContext m t
     → Within (Made m (Halt (BadPointer regs.r8 t.context.regs.r31) u)) most_leave_steps (kernel_at regs z m BAD_POINTER) []
 
+-- From BAD_THREAD they stop with the handle in r8 and the context's r31.
+abbrev pub BadThreadStops : Type 0
+BadThreadStops =
+    (regs : Registers) (z : Cop0) (m u : Memory) (t : ThreadContext) → z.sr % 2 ≡ 0 → HoldsContext m t
+    → Within (Made m (Halt (BadThread regs.r8 t.context.regs.r31) u)) most_leave_steps (kernel_at regs z m BAD_THREAD) []
+
+-- From DEEP they stop with the address in r31, whatever the work area holds.
+abbrev pub DeepStops : Type 0
+DeepStops = (regs : Registers) (z : Cop0) (m u : Memory) → z.sr % 2 ≡ 0 → HoldsEntry m → Within (Made m (Halt (Deep regs.r31) u)) most_leave_steps (kernel_at regs z m DEEP) []
+
 -- exit and putchar, from where they are called
 abbrev pub OwnCalls : (at : ℕ) → (KernelState → Stay) → Type 0
 OwnCalls at stay =
     (s : KernelState) (regs : Registers) (z : Cop0) (m : Memory) → z.sr % 2 ≡ 0 → HoldsContext m s.running
     → Within (λ k q. KeepsRest s (stay s) × Made m (stay s) k q) most_steps (kernel_at (called_with (registers_of s) regs) z m at) []
 
--- From WORK they return to the context as it is: no tasks are kept yet.
+-- From WORK they return to the context as it is: no task is served yet, and none is looked at.
 abbrev pub WorkReturns : Type 0
 WorkReturns =
     (regs : Registers) (z : Cop0) (m : Memory) (t : ThreadContext) (s : KernelState) → z.sr % 2 ≡ 0 → HoldsContext m t → s.running ≡ record { context = taken t.context t.context.pc; interrupts = t.interrupts }

@@ -2,7 +2,7 @@
 ghost use Rattle.abs_kernel.specs.Exits.{exits};
 ghost use Rattle.abs_kernel.specs.Putchar.{putchar};
 ghost use Rattle.kern_entry.specs.declared.places.TheConstants.{EXIT, PUTCHAR};
-ghost use Rattle.kern_entry.specs.EntryLaws.{StaysBegin, LeaveReturns, WaitReturns, WorkReturns, BadPointerStops, OwnCalls};
+ghost use Rattle.kern_entry.specs.EntryLaws.{StaysBegin, LeaveReturns, WaitReturns, WorkReturns, BadPointerStops, BadThreadStops, DeepStops, OwnCalls};
 
 /// From the exception vector the entry's words, where they stand in memory, begin the stay of each entry from the user side, step by step and whatever the bus brings, in at most 802 steps:
 /// they make it, or they come to the routine that the table has for the call, with the caller's context saved. It does nothing.
@@ -16,6 +16,8 @@ pub fn routines_return()
     ensures wait { WaitReturns }
     ensures work { WorkReturns }
     ensures bad_pointer { BadPointerStops }
+    ensures bad_thread { BadThreadStops }
+    ensures deep { DeepStops }
 {}
 
 /// The entry's own two routines make their calls' stays. It does nothing.

@@ -1,5 +1,5 @@
 -- Each call is served from its routine on, and each entry from the vector on.
-use Rattle.std.proofs.Common.{◌≡◌, ℕ, suc, ◌+◌, ◌-◌, ◌*◌, ◌%◌, ◌≤◌, List, [], ◌∷◌, ◌++◌, false, refl, sym, ap, ◌∙◌, subst, arith}
+use Rattle.std.proofs.Common.{◌≡◌, ℕ, suc, ◌+◌, ◌-◌, ◌*◌, ◌%◌, ◌≤◌, ◌⊎◌, inl, inr, ⊎_elim, List, [], ◌∷◌, ◌++◌, false, refl, sym, ap, ◌∙◌, subst, arith}
 use Rattle.psx_base.specs.declared.stop.Stop.{Stop}
 use Rattle.psx_base.specs.declared.ports.TheConstants.{HALT_A, HALT_B, HALT_C}
 use Rattle.psx_base.specs.Memory.{Memory}
@@ -19,7 +19,7 @@ use Rattle.abs_kernel.specs.Stay.{Stay}
 use Rattle.abs_run.specs.Serves.{Runs}
 use Rattle.kern_stay.specs.Shared.{tested_there}
 use Rattle.kern_stay.specs.Follows.{after, Follows, given}
-use Rattle.kern_stay.specs.Doors.{Arrives, Ends, worth_of, Through, called_with, begun, most_nodes, IsServed}
+use Rattle.kern_stay.specs.Doors.{Arrives, AtWork, Ends, worth_of, Through, called_with, begun, most_nodes, IsServed}
 use Rattle.kern_stay.proofs.Telling.{after_ports, follows_ports}
 use Rattle.kern_entry.specs.Holding.{HoldsEntry}
 use Rattle.kern_entry.specs.EntryLaws.{KeepsRest, OwnCalls, kernel_at}
@@ -32,15 +32,22 @@ use Rattle.kern_image.proofs.StaysRuns.{runs_more}
 use Rattle.kern_image.proofs.StaysMade.{Shows, shows_back, made_shows}
 use Rattle.kern_image.proofs.StaysStage.{aimed_shows, going_shows, bare, weight, runs_bare, from_bare, bare_after, bare_follows, after_ends, bare_ends}
 use Rattle.kern_image.proofs.StaysStand.{back, spared_user}
-use Rattle.kern_image.proofs.StaysDoors.{at_core, InDoor, IsValid, in_door, ends_door}
+use Rattle.kern_image.proofs.StaysDoors.{at_core, InDoor, IsValid, in_door, at_work, ends_door}
 
 -- a state behind a stage passes no more nodes than its bound, and its stay's touches
-low_told : (flat : ℕ) (stay : Stay) (told : List Access) (to : ℕ) (e : Run) → Ends (worth_of told) (after stay told) flat to e → e.passed ≤ flat + 32 * weight stay
-low_told flat stay [] to e h = let r = ends_door 32 stay flat to e h in omega (arith, r.0)
-low_told flat stay (x ∷ q) to e h = let r = ends_door 0 (after stay (x ∷ q)) flat to e h in omega (arith, r.0)
+low_told : (flat : ℕ) (stay : Stay) (told : List Access) (to : ℕ) (e : Run) → Ends (worth_of told) (after stay told) flat to e ⊎ AtWork (after stay told) flat to e → e.passed ≤ flat + 32 * weight stay
+low_told flat stay told to e (inr h) = let few = h.1 in omega (arith, few)
+low_told flat stay [] to e (inl h) = let r = ends_door 32 stay flat to e h in omega (arith, r.0)
+low_told flat stay (x ∷ q) to e (inl h) = let r = ends_door 0 (after stay (x ∷ q)) flat to e h in omega (arith, r.0)
 
 door_told : (flat : ℕ) (stay : Stay) (told : List Access) (to : ℕ) (e : Run) → Ends (worth_of told) (after stay told) flat to e → InDoor (bare (after stay told)) to e
 door_told flat stay told to e h = (ends_door (worth_of told) (after stay told) flat to e h).1
+
+-- a stay that is done at WORK touches nothing before
+to_work : (rom : List ℕ) (a b c : ℕ) (m : Memory) (words : HoldsEntry m) (code : HoldsRom m rom) (flat : ℕ) (rest : Stay) → IsValid rest → (to : ℕ) (e : Run) → Keeps kernel_words m e → AtWork rest flat to e → Runs rom (bare rest) 283 (at_core rom a b c (kernel_core (state_at e to)))
+to_work rom a b c m words code flat rest valid to e ke h =
+    let P : Stay → Type 0 = λ x. Runs rom x 283 (at_core rom a b c (kernel_core (state_at e to))) in
+    subst (λ x. P x → P (bare x)) (sym h.2.is) (λ y. y) (at_work rom a b c m words code rest valid flat to e ke h)
 
 -- listings that stand, and others
 pub both_placed : (m : Memory) (ls rs : List (ℕ × Tree)) → ArePlaced kernel_words m ls → ArePlaced kernel_words m rs → ArePlaced kernel_words m (ls ++ rs)
@@ -66,7 +73,8 @@ module _ (rom : List ℕ) (m : Memory) (words : HoldsEntry m) (code : HoldsRom m
         let A : ℕ = given HALT_A a e.seen in let B : ℕ = given HALT_B b e.seen in let C : ℕ = given HALT_C c e.seen in
         let k : Core = kernel_core (state_at e to) in
         let rest_stay : Stay = bare (after stay t.told) in
-        let r = in_door rom A B C m words code rest_stay (bare_ends _ _ (after stay t.told) (after_ends _ _ stay t.told valid)) to e ke (door_told flat stay t.told to e t.ends) in
+        let each : IsValid (after stay t.told) = after_ends _ _ stay t.told valid in
+        let r : Runs rom rest_stay 283 (at_core rom A B C k) = ⊎_elim (λ d. in_door rom A B C m words code rest_stay (bare_ends _ _ (after stay t.told) each) to e ke (door_told flat stay t.told to e d)) (λ w. to_work rom A B C m words code flat (after stay t.told) each to e ke w) t.ends in
         let more : 283 + (rest + n - 283) ≡ rest + n = omega arith in
         let r2 : Runs rom rest_stay (rest + n) (at_core rom A B C k) = subst (λ j. Runs rom rest_stay j (at_core rom A B C k)) more (runs_more rom (rest + n - 283) rest_stay 283 (at_core rom A B C k) r) in
         going_shows rom (bare stay) a b c (rest + n) k e.seen (

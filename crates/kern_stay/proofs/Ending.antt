@@ -1,28 +1,41 @@
 -- What the proof of a routine cites besides psx_flow's Kit: its ends, what is left of its stay, and its accesses to user memory.
-use Rattle.std.proofs.Common.{◌≡◌, ℕ, ◌+◌, ◌*◌, ◌%◌, ◌^◌, ◌/◌, ◌⊎◌, ◌<◌, ◌≤◌, [], Bool, true, false, refl, sym, ap, ◌∙◌, subst, arith}
+use Rattle.std.proofs.Common.{◌≡◌, ℕ, ◌+◌, ◌*◌, ◌%◌, ◌^◌, ◌/◌, ◌⊎◌, ◌<◌, ◌≤◌, [], inl, inr, Bool, true, false, refl, sym, ap, ◌∙◌, subst, arith}
 use Rattle.std.specs.Prelude.{nat_eq, ◌&&◌, ◌||◌, if◌then◌else◌}
 use Rattle.std.proofs.lemmas.Bool.{false≢true}
 use Rattle.psx_base.specs.Addresses.{place, user, top, low, user_main, scratchpad}
 use Rattle.psx_base.specs.Memory.{Memory, byte}
 use Rattle.psx_base.specs.KernelState.{KernelState}
 use Rattle.psx_flow.specs.Run.{Run}
+use Rattle.psx_base.specs.declared.stop.Stop.TheVariants.{BadThread, Deep}
 use Rattle.psx_flow.specs.Told.{ports}
-use Rattle.abs_kernel.specs.Stay.{Stay}
-use Rattle.abs_kernel.specs.Answered.{answered}
+use Rattle.kern_layout.specs.Stands.{SameUser}
+use Rattle.abs_kernel.specs.Stay.{Stay, Halt}
+use Rattle.abs_kernel.specs.Answered.{registers_of, answered}
 use Rattle.abs_kernel.specs.UserBytes.{count_of, bad_pointer, reads_byte, writes_byte, with_byte}
-use Rattle.kern_stay.specs.declared.places.TheConstants.{LEAVE, BAD_POINTER}
-use Rattle.kern_stay.specs.Doors.{Holds, Ends, Through}
+use Rattle.kern_stay.specs.declared.places.TheConstants.{LEAVE, WORK, BAD_POINTER, BAD_THREAD, DEEP}
+use Rattle.kern_stay.specs.Doors.{Holds, Works, Ends, Through}
 
 -- ---- the ends, of a stay that accesses no port
 
 pub through : (stay : Stay) (most to : ℕ) (e : Run) → ports e.seen ≡ [] → Ends 32 stay most to e → Through stay most to e
-through stay most to e q h = record { told = []; ports = q; follows = tt; ends = h }
+through stay most to e q h = record { told = []; ports = q; follows = tt; ends = inl h }
 
 pub answers : (most : ℕ) (state : KernelState) (e : Run) (stay : Stay) → stay ≡ answered state e.regs.r2 → Holds state e.bytes → e.passed ≤ most → Ends 32 stay most LEAVE e
 answers most state e stay is h few = subst (λ x. Ends 32 x most LEAVE e) (sym is) (few, record { state = state; is = refl; holds = h })
 
 pub refuses : (most : ℕ) (state : KernelState) (e : Run) (stay : Stay) → stay ≡ bad_pointer state e.regs.r8 → Holds state e.bytes → e.passed ≤ most → Ends 32 stay most BAD_POINTER e
 refuses most state e stay is h few = subst (λ x. Ends 32 x most BAD_POINTER e) (sym is) (few, record { state = state; is = refl; memory_is = refl; holds = h })
+
+-- the tasks are done from WORK on
+pub works : (stay : Stay) (most : ℕ) (e : Run) → ports e.seen ≡ [] → Works stay e → e.passed ≤ most → Through stay most WORK e
+works stay most e q h few = record { told = []; ports = q; follows = tt; ends = inr (refl, few, h) }
+
+-- a handle that names no thread, and a frame too many
+pub refuses_thread : (most : ℕ) (state : KernelState) (e : Run) (stay : Stay) → stay ≡ Halt (BadThread e.regs.r8 (registers_of state).r31) state.memory → Holds state e.bytes → e.passed ≤ most → Ends 32 stay most BAD_THREAD e
+refuses_thread most state e stay is h few = subst (λ x. Ends 32 x most BAD_THREAD e) (sym is) (few, record { state = state; is = refl; memory_is = refl; holds = h })
+
+pub overflows : (most : ℕ) (memory : Memory) (e : Run) (stay : Stay) → stay ≡ Halt (Deep e.regs.r31) memory → SameUser e.bytes memory → e.passed ≤ most → Ends 32 stay most DEEP e
+overflows most memory e stay is h few = subst (λ x. Ends 32 x most DEEP e) (sym is) (few, record { is = refl; user = h })
 
 -- ---- what is left of a stay, and how many nodes it may end at, where the whole of it has a flat bound
 

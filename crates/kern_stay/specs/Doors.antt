@@ -1,11 +1,11 @@
 -- What is asked of a routine: from where the table's entry leads, with the caller's context saved, its words come to one of the doors, where what is left of the stay is made.
-use Rattle.std.specs.Prelude.{◌≡◌, ℕ, ◌+◌, ◌*◌, ◌^◌, ◌<◌, ◌≤◌, false, cond, nat_eq, List, [], ◌∷◌, ◌++◌, None}
+use Rattle.std.specs.Prelude.{◌≡◌, ℕ, ◌+◌, ◌*◌, ◌^◌, ◌<◌, ◌≤◌, ◌⊎◌, false, cond, nat_eq, List, [], ◌∷◌, ◌++◌, None}
 use Rattle.psx_base.specs.declared.stop.Stop.{Stop}
-use Rattle.psx_base.specs.declared.stop.Stop.TheVariants.{BadPointer}
+use Rattle.psx_base.specs.declared.stop.Stop.TheVariants.{BadPointer, BadThread, Deep}
 use Rattle.psx_base.specs.Context.{taken, epc_of}
 use Rattle.psx_base.specs.Memory.{Memory, byte, word}
 use Rattle.psx_base.specs.Registers.{Registers, register}
-use Rattle.psx_base.specs.KernelState.{KernelState}
+use Rattle.psx_base.specs.KernelState.{ThreadContext, KernelState}
 use Rattle.psx_cpu.specs.Processor.{Cop0}
 use Rattle.psx_flow.specs.Tree.{Tree}
 use Rattle.psx_flow.specs.Run.{Run, Access}
@@ -16,12 +16,14 @@ use Rattle.psx_flow.specs.Meets.{Goal, Meets, calls}
 use Rattle.kern_layout.specs.Numbers.{work_area}
 use Rattle.kern_layout.specs.Fields.{Block}
 use Rattle.kern_layout.specs.Contexts.{saved}
+use Rattle.kern_layout.specs.Tasks.{TasksAt}
 use Rattle.kern_layout.specs.Reads.{Reads}
 use Rattle.kern_layout.specs.Stands.{SameUser}
 use Rattle.kern_layout.specs.Valid.{Valid}
 use Rattle.abs_kernel.specs.Stay.{Stay, Return, Halt, Touch}
 use Rattle.abs_kernel.specs.Answered.{registers_of, with_running, with_answer}
-use Rattle.kern_stay.specs.declared.places.TheConstants.{LEAVE, WAIT, BAD_POINTER}
+use Rattle.abs_kernel.specs.Work.{takes_up}
+use Rattle.kern_stay.specs.declared.places.TheConstants.{LEAVE, WAIT, WORK, BAD_POINTER, BAD_THREAD, DEEP}
 use Rattle.kern_stay.specs.Follows.{after, Follows}
 use Rattle.kern_stay.specs.Shared.{tested_there}
 
@@ -47,18 +49,35 @@ pub record Waits (t : KernelState) (e : Run) : Type 0 where
   pub is : t ≡ with_running state (taken state.running.context (epc_of state.running.context))
   pub holds : Holds state e.bytes
 
--- at BAD_POINTER: the stop names the address in r8 and the caller's r31
-pub record Refuses (stop : Stop) (memory : Memory) (e : Run) : Type 0 where
+-- at BAD_POINTER and BAD_THREAD: the stop names what r8 has, and the caller's r31
+pub record Refuses (named : (value ra : ℕ) → Stop) (stop : Stop) (memory : Memory) (e : Run) : Type 0 where
   pub state : KernelState
-  pub is : stop ≡ BadPointer e.regs.r8 (registers_of state).r31
+  pub is : stop ≡ named e.regs.r8 (registers_of state).r31
   pub memory_is : memory ≡ state.memory
   pub holds : Holds state e.bytes
+
+-- At DEEP: the stop names the address in r31, a caller's or that of an interrupt.
+pub record Overflows (stop : Stop) (memory : Memory) (e : Run) : Type 0 where
+  pub is : stop ≡ Deep e.regs.r31
+  pub user : SameUser e.bytes memory
 
 abbrev pub AtReturn : KernelState → ℕ → Goal
 AtReturn t to e = cond (nat_eq to LEAVE) (Answers t e) (cond (nat_eq to WAIT) (Waits t e) ⊥)
 
 abbrev pub AtHalt : Stop → Memory → ℕ → Goal
-AtHalt stop memory to e = cond (nat_eq to BAD_POINTER) (Refuses stop memory e) ⊥
+AtHalt stop memory to e = cond (nat_eq to BAD_POINTER) (Refuses BadPointer stop memory e) (cond (nat_eq to BAD_THREAD) (Refuses BadThread stop memory e) (cond (nat_eq to DEEP) (Overflows stop memory e) ⊥))
+
+-- At WORK: the work area holds a context, and the tasks that come before it is taken up. No task is served yet: there must be none, and what is left of the stay is to take up the context.
+pub record Works (rest : Stay) (e : Run) : Type 0 where
+  pub state : KernelState
+  pub context : ThreadContext
+  pub is : rest ≡ takes_up state context
+  pub holds : Holds (record state { running = context }) e.bytes
+  pub tasks : TasksAt (word e.bytes) work_area []
+
+-- What is left at WORK is no end yet, so this door stands beside those of an end.
+abbrev pub AtWork : Stay → (most to : ℕ) → Goal
+AtWork rest most to e = (to ≡ WORK) × (e.passed ≤ most) × Works rest e
 
 -- Behind its accesses to ports a stay is at its end, but for what it touches. A unit that it touches is worth so many nodes.
 abbrev pub Ends : (worth : ℕ) → Stay → (most to : ℕ) → Goal
@@ -77,7 +96,7 @@ pub record Through (stay : Stay) (most to : ℕ) (e : Run) : Type 0 where
   pub told : List Access
   pub ports : ports e.seen ≡ told
   pub follows : Follows stay told
-  pub ends : Ends (worth_of told) (after stay told) most to e
+  pub ends : Ends (worth_of told) (after stay told) most to e ⊎ AtWork (after stay told) most to e
 
 -- ---- a routine
 
