@@ -1,5 +1,5 @@
 -- putchar meets its stay.
-use Rattle.psx_flow.proofs.Kit.{ℕ, ◌%◌, ◌^◌, refl, sym, ap, arith, calls, kernel_words, fair, start, []}
+use Rattle.psx_flow.proofs.Kit.{ℕ, ◌%◌, ◌^◌, refl, sym, ap, arith, calls, kernel_words, fair, start, inl, []}
 use Rattle.abs_kernel.specs.Answered.{registers_of, answered}
 use Rattle.abs_kernel.specs.Putchar.{putchar}
 use Rattle.abs_kernel.specs.declared.calls.CallId.TheVariants.{A3C}
@@ -15,4 +15,4 @@ pub serves : Serves [] most_nodes (call A3C) PUTCHAR (tree NODES)
 serves s d z m h =
     let v : ℕ = (registers_of s).r4 in
     start (calls kernel_words tested_there) (fair kernel_words tested_there) (tree NODES) PUTCHAR (λ _. ⊥) (λ to e. Through (putchar s) most_nodes to e) (begun (called_with (registers_of s) d) z m)
-    (record { told = _; ports = refl; follows = (tt, (refl, refl)); ends = answers_now s most_nodes _ (answered s (v % 2 ^ 8)) (ap (answered s) (sym (low_byte v))) h.holds (omega arith) })
+    (record { told = _; ports = refl; follows = (tt, (refl, refl)); ends = inl (answers_now s most_nodes _ (answered s (v % 2 ^ 8)) (ap (answered s) (sym (low_byte v))) h.holds (omega arith)) })
