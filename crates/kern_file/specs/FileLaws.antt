@@ -3,13 +3,13 @@ use Rattle.psx_base.specs.Memory.{Memory, word}
 use Rattle.abs_kernel.specs.declared.calls.CallId.TheVariants.{A3E}
 use Rattle.abs_kernel.specs.Calls.{call}
 use Rattle.kern_stay.specs.Words.{Stand}
-use Rattle.kern_stay.specs.Doors.{most_nodes}
+use Rattle.kern_stay.specs.Doors.{most_steps}
 use Rattle.kern_stay.specs.Loops.{IsServedBy}
 use Rattle.kern_file.specs.declared.places.TheConstants.{PUTS}
 use Rattle.kern_file.specs.FileWords.{file_pieces}
 
 pub record FileServed (m : Memory) : Type 0 where
-  pub puts : IsServedBy m most_nodes (call A3E) PUTS
+  pub puts : IsServedBy m most_steps (call A3E) PUTS
 
 -- where its words stand
 abbrev pub FileServes : Type 0
