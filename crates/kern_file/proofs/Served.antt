@@ -6,7 +6,7 @@ use Rattle.abs_kernel.specs.Puts.{puts}
 use Rattle.kern_stay.specs.Shared.{tree}
 use Rattle.kern_stay.specs.declared.room.TheConstants.{ROOM_NODES}
 use Rattle.kern_stay.specs.Words.{Stand}
-use Rattle.kern_stay.specs.Doors.{IsServed, most_nodes}
+use Rattle.kern_stay.specs.Doors.{IsServed, most_steps}
 use Rattle.kern_stay.specs.Loops.{IsServedBy}
 use Rattle.kern_stay.proofs.Standing.{placed_by}
 use Rattle.kern_file.specs.declared.places.TheConstants.{PUTS, PUTS_LOOP, ROOM, PUTCHAR}
@@ -18,10 +18,10 @@ use Rattle.kern_file.specs.FileLaws.{FileServes}
 use Rattle.kern_file.proofs.A3cPutchar as of_putchar
 use Rattle.kern_file.proofs.A3ePuts as of_puts
 
-putchar_served : (m : Memory) → Stand (word m) file_pieces → IsServed m most_nodes putchar PUTCHAR
+putchar_served : (m : Memory) → Stand (word m) file_pieces → IsServed m most_steps putchar PUTCHAR
 putchar_served m r = record { there = λ e. absurd (omega (arith, e)); own = []; own_placed = tt; listing = tree putchar_is.NODES; placed = placed_by m PUTCHAR (tree putchar_is.NODES) refl refl refl refl (r.1.1.1.0); serves = of_putchar.serves }
 
-puts_served : (m : Memory) → Stand (word m) file_pieces → IsServedBy m most_nodes puts PUTS
+puts_served : (m : Memory) → Stand (word m) file_pieces → IsServedBy m most_steps puts PUTS
 puts_served m r = record {
   there = λ e. absurd (omega (arith, e));
   own = own;
