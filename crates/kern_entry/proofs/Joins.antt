@@ -11,7 +11,7 @@ use Rattle.psx_flow.specs.Reaches.{Keeps}
 use Rattle.psx_base.specs.declared.stop.Stop.TheVariants.{Exit, BadPointer, BadThread, Deep}
 use Rattle.abs_kernel.specs.Stay.{Stay, Return, Halt}
 use Rattle.abs_kernel.specs.Exits.{exits}
-use Rattle.abs_kernel.specs.Console.{put_character}
+use Rattle.abs_kernel.specs.Putchar.{putchar}
 use Rattle.kern_stay.specs.Doors.{called_with}
 use Rattle.kern_entry.specs.declared.places.TheConstants.{EXIT, PUTCHAR}
 use Rattle.kern_entry.specs.Within.{Aim}
@@ -107,10 +107,10 @@ exit_called s regs z m off h =
     exit_shown m (all_placed m h.words) stay Z (λ k q y. (refl, y)) x.regs x.pc s.running.interrupts [] x.regs.r4 (starts d z m) (record { bytes = λ a e. refl; masked = off }) (starts_hold d z m s.running 130 h) refl
     (record { stop = Exit x.regs.r4; memory = s.memory; follows = (tt, refl); is = refl; stops = λ a b c. refl }) 202 (omega arith)
 
-pub putchar_called : OwnCalls PUTCHAR put_character
+pub putchar_called : OwnCalls PUTCHAR putchar
 putchar_called s regs z m off h =
     let x : Context = s.running.context in
-    let stay : Stay = put_character s in
+    let stay : Stay = putchar s in
     let Z : Aim = λ k q. KeepsRest s stay × Made m stay k q in
     let d : Registers = called_with x.regs regs in
     let byte : ℕ = x.regs.r4 % 2 ^ 8 in

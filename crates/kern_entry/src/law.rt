@@ -1,6 +1,6 @@
 //! What is proved of the entry's words.
 ghost use Rattle.abs_kernel.specs.Exits.{exits};
-ghost use Rattle.abs_kernel.specs.Console.{put_character};
+ghost use Rattle.abs_kernel.specs.Putchar.{putchar};
 ghost use Rattle.kern_entry.specs.declared.places.TheConstants.{EXIT, PUTCHAR};
 ghost use Rattle.kern_entry.specs.EntryLaws.{StaysBegin, LeaveReturns, WaitReturns, WorkReturns, BadPointerStops, BadThreadStops, DeepStops, OwnCalls};
 
@@ -23,5 +23,5 @@ pub fn routines_return()
 /// The entry's own two routines make their calls' stays. It does nothing.
 pub fn own_calls()
     ensures exit { OwnCalls EXIT exits }
-    ensures putchar { OwnCalls PUTCHAR put_character }
+    ensures putchar { OwnCalls PUTCHAR putchar }
 {}

@@ -1,16 +1,19 @@
 -- Each listing stands at its address, and serves its call.
-use Rattle.std.proofs.Common.{refl, arith}
+use Rattle.std.proofs.Common.{[], refl, arith}
 use Rattle.kern_stay.specs.Shared.{tree}
 use Rattle.kern_stay.specs.declared.room.TheConstants.{ROOM_NODES}
 use Rattle.kern_stay.proofs.Standing.{placed_by}
-use Rattle.kern_file.specs.declared.places.TheConstants.{PUTS, PUTS_LOOP, ROOM}
-use Rattle.kern_file.specs.declared.puts.TheConstants as puts_is
+use Rattle.kern_file.specs.declared.places.TheConstants.{PUTS, PUTS_LOOP, ROOM, PUTCHAR}
+use Rattle.kern_file.specs.declared.a3c_putchar.TheConstants as putchar_is
+use Rattle.kern_file.specs.declared.a3e_puts.TheConstants as puts_is
 use Rattle.kern_file.specs.Own.{own}
 use Rattle.kern_file.specs.FileLaws.{FileServes}
-use Rattle.kern_file.proofs.PutsMeets as of_puts
+use Rattle.kern_file.proofs.A3cPutchar as of_putchar
+use Rattle.kern_file.proofs.A3ePuts as of_puts
 
 pub file_serves : FileServes
 file_serves m r = record {
+  putchar = record { there = λ e. absurd (omega (arith, e)); own = []; own_placed = tt; listing = tree putchar_is.NODES; placed = placed_by m PUTCHAR (tree putchar_is.NODES) refl refl refl refl (r.1.1.1.0); serves = of_putchar.serves };
   puts = record {
     there = λ e. absurd (omega (arith, e));
     own = own;

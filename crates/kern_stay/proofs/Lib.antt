@@ -8,6 +8,7 @@ pub mod Trees
 pub mod Telling
 pub mod Standing
 pub mod Cursor
+pub mod TwoCursors
 pub mod Passing
 pub mod Copying
 pub mod Switching
