@@ -111,7 +111,7 @@ module _ (kept : ℕ → Bool) (first : Memory) (P : ℕ → Aim) (backs : Backs
         let few : (m : Run) → Turns n t body K (branching m) → suc (suc m.steps) ≤ most = λ m w. low_turns kept most C lows n t body K (branching m) lower o.low w in
         let low_one : Low most (λ m. Turns n t body K (branching m)) = λ m w. (let f = few m w in omega (arith, f)) in
         ⊎_elim
-        (λ y. by_two b s at least (lower _ (passing s) low_one (h.1 y)) (λ j fw. into j s ks y (walks (λ m. Turns n t body K (branching m)) (passing s) (passing_keeps s ks) (record {
+        (λ y. by_two b s at least (lower (λ m. Turns n t body K (branching m)) (passing s) low_one (h.1 y)) (λ j fw. into j s ks y (walks (λ m. Turns n t body K (branching m)) (passing s) (passing_keeps s ks) (record {
           low = low_one;
           low_jump = o.low_jump;
           here = λ m km w. by_two b m back least (few m w) (λ i fi. again i m km (turns n t at back end body K G b least walks lower into past again o (branching m) (branching_keeps m km) w i fi));

@@ -28,7 +28,7 @@ module _ (kept : ℕ → Bool) (most : ℕ) where
     pub low_turns : (n : ℕ) (t : Test) (body : Goal → Goal) (K : Goal) (s : Run) → ((L : Goal) (e : Run) → Low most L → body L e → e.steps ≤ most) → Low most K → Turns n t body K s → s.steps ≤ most
     low_turns zero t body K s b k h = absurd h
     low_turns (suc n) t body K s b k h =
-        made_two s (⊎_elim (λ y. b _ (passing s) (λ e w. low_turns n t body K e b k w) (h.1 y)) (λ y. k (passing s) (h.0 y)) (decided t s.regs))
+        made_two s (⊎_elim (λ y. b (λ m. Turns n t body K (branching m)) (passing s) (λ e w. made_two e (low_turns n t body K (branching e) b k w)) (h.1 y)) (λ y. k (passing s) (h.0 y)) (decided t s.regs))
 
     pub low : (T : Tree) (at : ℕ) (K : Goal) (G : ℕ → Goal) (s : Run) → Low most K → ((b : ℕ) → Low most (G b)) → Meets kept C T at K G s → s.steps ≤ most
     low Stop at K G s k g h = k s h
@@ -37,7 +37,7 @@ module _ (kept : ℕ → Bool) (most : ℕ) where
         made_two s (⊎_elim (λ y. low a (at + 8) _ G (passing s) (λ e w. low r (at + (8 + 4 * size a)) K G e k g w) g (h.0 y)) (λ y. low r (at + (8 + 4 * size a)) K G (passing s) k g (h.1 y)) (decided t s.regs))
     low (Choose t a b r) at K G s k g h =
         let rest = at + (16 + 4 * size a + 4 * size b) in
-        made_two s (⊎_elim (λ y. low a (at + 8) _ G (passing s) (λ e w. made_two e (low r rest K G (branching e) k g w)) g (h.0 y)) (λ y. low b (at + (16 + 4 * size a)) _ G (passing s) (λ e w. low r rest K G e k g w) g (h.1 y)) (decided t s.regs))
+        made_two s (⊎_elim (λ y. low a (at + 8) (λ m. Meets kept C r rest K G (branching m)) G (passing s) (λ e w. made_two e (low r rest K G (branching e) k g w)) g (h.0 y)) (λ y. low b (at + (16 + 4 * size a)) _ G (passing s) (λ e w. low r rest K G e k g w) g (h.1 y)) (decided t s.regs))
     low (Loop t a r) at K G s k g h =
         low_turns h.0 t (λ L. Meets kept C a (at + 8) L G) (Meets kept C r (at + (16 + 4 * size a)) K G) s (λ L e w. low a (at + 8) L G e w g) (λ e w. low r (at + (16 + 4 * size a)) K G e k g w) h.1
     low (Visit a r) at K G s k g h = made_two s (known.low a (at + 8) _ (linking s (at + 8)) (λ e w. low r (at + 8) K G e k g w) h)

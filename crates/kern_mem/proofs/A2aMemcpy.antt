@@ -90,7 +90,7 @@ module _ (C : Calls) (know : KnowsRoom ROOM C) (stay : Stay) (s : KernelState) (
                 let p = other_bad a b n m flag second k x y pair h.cursors (eq ∙ h.r11) (λ z. ne (h.r10 ∙ z)) (λ z. nz (h.r13 ∙ z)) in
                 let l = left_read stay t x (write x y k t) h.most p.0 (left_is stay _ _ h.most (copy_more k t y x b p.1.some) h.left) in
                 let l = left_unwritten stay t y (v % 2 ^ 8) (next x y k) (h.most + 128) p.1.user l in
-                through stay most_steps _ _ h.quiet (l.enough _ _ (refuses (h.most + 128 + 32) t _ (bad_pointer t y) refl h.holds (omega arith))),
+                through stay most_steps _ _ h.quiet (l.enough _ _ (refuses (h.most + 128 + 128) t _ (bad_pointer t y) refl h.holds (omega arith))),
             λ z.
                 let p = first_bad a b n m flag second k x y pair h.cursors (eq ∙ h.r11) (λ z. ne (h.r10 ∙ z)) (sym h.r13 ∙ z) in
                 let l = left_unread stay t x (write x y k t) h.most p.user (left_is stay _ _ h.most (copy_more k t y x b p.some) h.left) in
@@ -108,7 +108,7 @@ module _ (C : Calls) (know : KnowsRoom ROOM C) (stay : Stay) (s : KernelState) (
             let stored : Holds (with_byte t y (v % 2 ^ 8)) (put_byte e.bytes (place y) (byte e.bytes (place x) % 2 ^ 8)) =
             subst (λ u. Holds (with_byte t y (v % 2 ^ 8)) (put_byte e.bytes (place y) (u % 2 ^ 8))) (sym is) (holds_byte t (valid_moved s h.memory s.random s.running valid valid.running) e.bytes h.holds y (v % 2 ^ 8) g.user_y) in
             rw (g.here_x, g.sort_x, g.here_y, g.sort_y)
-            (k - 1, g.less, record { memory = put_byte h.memory (place y) (v % 2 ^ 8); holds = stored; most = h.most + 128 + 32; left = l; within = omega arith; quiet = h.quiet; r4 = h.r4; r10 = h.r10; r11 = h.r11; r13 = h.r13; cursors = g.next });
+            (k - 1, g.less, record { memory = put_byte h.memory (place y) (v % 2 ^ 8); holds = stored; most = h.most + 128 + 128; left = l; within = omega arith; quiet = h.quiet; r4 = h.r4; r10 = h.r10; r11 = h.r11; r13 = h.r13; cursors = g.next });
       }
 
   loops : (e : Run) → Head stay s a b n m flag second n e → Meets kernel_words C (Loop (Differ (r 8) (r 11)) turn_tree Stop) 0 (Anew (Sym C end_tree 0 (ended (λ _. ⊥)) G)) G e
