@@ -34,11 +34,11 @@ find (p ∷ ps) id = if same_call p.0 id then Some p.1 else find ps id
 
 found : (P : CallId → ℕ → Type 0) (ps : List (CallId × ℕ)) (id : CallId) (at : ℕ) → EachAt P ps → find ps id ≡ Some at → P id at
 found P [] id at h e = absurd (cc)
-found P (p ∷ ps) id at h e = go (same_call p.0 id) refl e
+found P (p ∷ ps) id at h e = go (same_call p.0 id) refl (λ q. found P ps id at h.1 q) e
   where
-    go : (b : Bool) → same_call p.0 id ≡ b → (if b then Some p.1 else find ps id) ≡ Some at → P id at
-    go true w q = subst (λ i. P i at) (same_is p.0 id w) (subst (P p.0) (ap (λ o. unwrap_or o 0) q) h.0)
-    go false w q = found P ps id at h.1 q
+    go : (b : Bool) → same_call p.0 id ≡ b → (find ps id ≡ Some at → P id at) → (if b then Some p.1 else find ps id) ≡ Some at → P id at
+    go true w later q = subst (λ i. P i at) (same_is p.0 id w) (subst (P p.0) (ap (λ o. unwrap_or o 0) q) h.0)
+    go false w later q = later q
 
 each_both : (P : CallId → ℕ → Type 0) (ps qs : List (CallId × ℕ)) → EachAt P ps → EachAt P qs → EachAt P (ps ++ qs)
 each_both P [] qs h g = g
