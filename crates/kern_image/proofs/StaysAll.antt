@@ -79,16 +79,16 @@ module _ (k : Core) (s : KernelState) (trap : Trap) (a b c : ℕ) (valid : Valid
       let there : Runs rom stay n (record { core = j; a = given HALT_A a q; b = given HALT_B b q; c = given HALT_C c q }) = subst F (λ i. record { core = j; a = sym A i; b = sym B i; c = sym C i }) h in
       going_shows rom stay a b c n j q (follows_ports stay q (subst (Follows stay) (sym e) tt), subst (λ y. Runs rom y n (record { core = j; a = given HALT_A a q; b = given HALT_B b q; c = given HALT_C c q })) (sym is) there)
 
-  shown : (j : Core) (q : List Access) → Begins routine_of k.bytes s stay j q → Shows rom stay a b c 19000 j q
+  shown : (j : Core) (q : List Access) → Begins routine_of k.bytes s stay j q → Shows rom stay a b c 20278 j q
   shown j q (inl y) =
       made_shows rom stay a b c k.bytes (λ x. x ≡ record s { running = x.running }) (λ stop memory. memory ≡ s.memory) y.0 (λ state next e i. back k.bytes (side_of k) s rom valid stands state next e i)
-      (λ stop memory i e sp. spared_user k.bytes i.bytes memory (subst (SameUser k.bytes) (sym e) stands.user) sp) 18999 j q y.1
+      (λ stop memory i e sp. spared_user k.bytes i.bytes memory (subst (SameUser k.bytes) (sym e) stands.user) sp) 20277 j q y.1
   shown j q (inr x) =
       let code : HoldsRom j.bytes rom = λ p f. (let low = fixed_below p f in x.spared p (inl (omega arith))) ∙ stands.code p f in
       let ok : IsValid (call x.id t) = subst IsValid x.is (valid_kept s trap.code valid) in
       let r = served j.bytes code x.id a b c t x.regs x.cop0 ok (arrived j.bytes x.out (held j q x)) x.off in
-      let r2 : Runs rom (call x.id t) 19000 (at_core rom a b c j) = subst (λ y. Runs rom (call x.id t) 19000 (at_core rom a b c y)) (sym x.core) r in
-      quiet_shows 19000 j q x.quiet (subst (λ y. Runs rom y 19000 (at_core rom a b c j)) (sym x.is) r2)
+      let r2 : Runs rom (call x.id t) 20278 (at_core rom a b c j) = subst (λ y. Runs rom (call x.id t) 20278 (at_core rom a b c y)) (sym x.core) r in
+      quiet_shows 20278 j q x.quiet (subst (λ y. Runs rom y 20278 (at_core rom a b c j)) (sym x.is) r2)
 
   pub stay_served : Runs rom stay (bound_of s trap.code) (entered k trap a b c)
   stay_served =
@@ -96,10 +96,10 @@ module _ (k : Core) (s : KernelState) (trap : Trap) (a b c : ℕ) (valid : Valid
       let e = entry_of s.running.context trap.code in
       let least = bound_by_least e.gate e.number in
       let from : Core = record k { processor = enter k.processor trap } in
-      let h = aimed_shows rom stay a b c (Begins routine_of k.bytes s stay) 19000 shown 802 from []
+      let h = aimed_shows rom stay a b c (Begins routine_of k.bytes s stay) 20278 shown 202 from []
       (stays_begin routine_of k s trap (record { context = stands.context; sr = stands.sr; code = f.0; mirrored = λ e o. f.1 e; words = holds_entry k.bytes stands.code; tables = tables_read k.bytes stands.code })) in
-      let more : 19802 + (bound_of s trap.code - 19802) ≡ bound_of s trap.code = omega (arith, least) in
-      subst (λ n. Runs rom stay n (entered k trap a b c)) more (runs_more rom (bound_of s trap.code - 19802) stay 19802 (entered k trap a b c) h.1)
+      let more : 20480 + (bound_of s trap.code - 20480) ≡ bound_of s trap.code = omega (arith, least) in
+      subst (λ n. Runs rom stay n (entered k trap a b c)) more (runs_more rom (bound_of s trap.code - 20480) stay 20480 (entered k trap a b c) h.1)
 
 pub makes_stays : MakesStays rom
 makes_stays k s trap a b c valid fits stands enters = stay_served k s trap a b c valid fits stands enters

@@ -1,7 +1,7 @@
 //! Where the routine of each call stands.
 use abs_kernel::CallId;
-use kern_entry::places::{EXIT, PUTCHAR};
-use kern_file::places::PUTS;
+use kern_entry::places::EXIT;
+use kern_file::places::{PUTCHAR, PUTS};
 use kern_mem::places::{MEMCHR, MEMSET, RAND, SRAND};
 
 /// A call, and the address of the listing that serves it.
