@@ -69,10 +69,10 @@ all_placed m h =
       deep = placed_by m DEEP (tree DEEP_NODES) refl refl refl refl (r.1.1.1.1.1.1.1.1.1.1.1.1.1.1.1.1.1.1.1.1.1.1.1.1.1.0);
       tested = (
         placed_by m READ_BYTE (tree tested.READ_BYTE) refl refl refl refl (r.1.1.1.1.1.1.1.1.1.1.1.1.1.1.1.1.1.1.1.1.1.1.1.1.1.1.0),
-        placed_by m WRITE_BYTE (tree tested.WRITE_BYTE) refl refl refl refl (r.1.1.1.1.1.1.1.1.1.1.1.1.1.1.1.1.1.1.1.1.1.1.1.1.1.1.1.0),
-        placed_by m READ_WORD (tree tested.READ_WORD) refl refl refl refl (r.1.1.1.1.1.1.1.1.1.1.1.1.1.1.1.1.1.1.1.1.1.1.1.1.1.1.1.1.0),
-        placed_by m WRITE_WORD (tree tested.WRITE_WORD) refl refl refl refl (r.1.1.1.1.1.1.1.1.1.1.1.1.1.1.1.1.1.1.1.1.1.1.1.1.1.1.1.1.1.0),
-        tt,
+        (
+          placed_by m WRITE_BYTE (tree tested.WRITE_BYTE) refl refl refl refl (r.1.1.1.1.1.1.1.1.1.1.1.1.1.1.1.1.1.1.1.1.1.1.1.1.1.1.1.0),
+          (placed_by m READ_WORD (tree tested.READ_WORD) refl refl refl refl (r.1.1.1.1.1.1.1.1.1.1.1.1.1.1.1.1.1.1.1.1.1.1.1.1.1.1.1.1.0), (placed_by m WRITE_WORD (tree tested.WRITE_WORD) refl refl refl refl (r.1.1.1.1.1.1.1.1.1.1.1.1.1.1.1.1.1.1.1.1.1.1.1.1.1.1.1.1.1.0), tt)),
+        ),
       );
       return = as_code kernel_words m RETURN (JR k0 ∷ RFE ∷ []) (code_stands m RETURN return_words refl (r.1.1.1.1.1.1.1.1.1.1.1.1.1.1.1.1.0));
     }

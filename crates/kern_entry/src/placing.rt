@@ -7,7 +7,7 @@ ghost use Rattle.psx_flow.specs.Lowered.{reaches};
 ghost use Rattle.kern_layout.specs.BlockWords.{IsBlock};
 ghost use Rattle.kern_stay.specs.Words.{over, overlaid, EndsBy};
 ghost use Rattle.kern_entry.specs.EntryWords.{gate, return_words, vector_pieces, entry_pieces, leave_pieces, routine_pieces, tested_pieces, code_pieces};
-ghost use Rattle.psx_flow.specs.declared.listings.TheConstants.{READ_BYTE, WRITE_BYTE, READ_WORD, WRITE_WORD};
+ghost use Rattle.psx_flow.specs.declared.listings.TheConstants as tested;
 ghost use Rattle.kern_entry.specs.declared.places.TheConstants as place;
 ghost use Rattle.kern_entry.specs.declared.save.TheConstants.{VECTOR_NODES, SAVE_NODES, CAUSES_NODES};
 ghost use Rattle.kern_entry.specs.declared.calls.TheConstants.{CALL_A_NODES, CALL_B_NODES, CALL_C_NODES, EXIT_NODES, PUTCHAR_NODES};
@@ -128,7 +128,7 @@ pub fn apart()
     ensures leave { EndsBy place.LEAVE LEAVE_NODES place.BEHIND }
     ensures behind { EndsBy place.BEHIND BEHIND_NODES place.RESUME }
     ensures resume { EndsBy place.RESUME RESUME_NODES RETURN }
-    ensures return { RETURN + 8 ≤ place.WORK }
+    ensures return_words { RETURN + 8 ≤ place.WORK }
     ensures work { EndsBy place.WORK WORK_NODES place.EXIT }
     ensures exit { EndsBy place.EXIT EXIT_NODES place.DONE }
     ensures done { EndsBy place.DONE DONE_NODES place.BACK }
@@ -138,8 +138,8 @@ pub fn apart()
     ensures bad_pointer { EndsBy place.BAD_POINTER BAD_POINTER_NODES place.BAD_THREAD }
     ensures bad_thread { EndsBy place.BAD_THREAD BAD_THREAD_NODES place.DEEP }
     ensures deep { EndsBy place.DEEP DEEP_NODES place.READ_BYTE }
-    ensures read_byte { EndsBy place.READ_BYTE READ_BYTE place.WRITE_BYTE }
-    ensures write_byte { EndsBy place.WRITE_BYTE WRITE_BYTE place.READ_WORD }
-    ensures read_word { EndsBy place.READ_WORD READ_WORD place.WRITE_WORD }
-    ensures write_word { EndsBy place.WRITE_WORD WRITE_WORD 0x80002000 }
+    ensures read_byte { EndsBy place.READ_BYTE tested.READ_BYTE place.WRITE_BYTE }
+    ensures write_byte { EndsBy place.WRITE_BYTE tested.WRITE_BYTE place.READ_WORD }
+    ensures read_word { EndsBy place.READ_WORD tested.READ_WORD place.WRITE_WORD }
+    ensures write_word { EndsBy place.WRITE_WORD tested.WRITE_WORD 0x80002000 }
 {}

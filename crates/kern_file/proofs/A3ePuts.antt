@@ -11,7 +11,7 @@ use Rattle.abs_kernel.specs.declared.calls.CallId.TheVariants.{A3E}
 use Rattle.abs_kernel.specs.Calls.{call}
 use Rattle.kern_stay.specs.Room.{room}
 use Rattle.kern_stay.specs.Shared.{tree, tested_there}
-use Rattle.kern_stay.specs.Doors.{Holds, called_with, begun, most_nodes}
+use Rattle.kern_stay.specs.Doors.{Holds, called_with, begun, most_steps}
 use Rattle.kern_stay.specs.Loops.{Passes, Repeats, ServesBy, units, earned}
 use Rattle.kern_stay.proofs.RoomGiven.{KnowsRoom, knows_room}
 use Rattle.kern_stay.proofs.RoomLeft.{Span, span_some, room_few}
@@ -39,9 +39,9 @@ record Head (s : KernelState) (a n stop k : ℕ) (rest : Stay) (e : Run) : Type 
 module _ (s : KernelState) (a n stop : ℕ) (span : Span a n stop 1) where
   -- where a turn comes back to
   abbrev again : ℕ → Stay → List Access → Stay → Goal
-  again m rest told r g = (g.passed ≤ 64) × (64 ≤ 32 * earned rest told) × Repeats own most_nodes PUTS_LOOP (tree LOOP_NODES) m r g
+  again m rest told r g = (g.steps ≤ 64) × (64 ≤ 128 * earned rest told) × Repeats own most_steps PUTS_LOOP (tree LOOP_NODES) m r g
 
-  repeats : (m k : ℕ) (rest : Stay) (e : Run) → k < m → Head s a n stop k rest e → Repeats own most_nodes PUTS_LOOP (tree LOOP_NODES) m rest e
+  repeats : (m k : ℕ) (rest : Stay) (e : Run) → k < m → Head s a n stop k rest e → Repeats own most_steps PUTS_LOOP (tree LOOP_NODES) m rest e
   repeats zero k rest e lt h = absurd (omega arith)
   repeats (suc m) k rest e lt h =
       let C : Calls = calls kernel_words (own ++ tested_there) in
@@ -73,14 +73,14 @@ module _ (s : KernelState) (a n stop : ℕ) (span : Span a n stop 1) where
             ),
       ))
 
-  starts : (rest : Stay) (e : Run) → Head s a n stop n rest e → (m : ℕ) × Repeats own most_nodes PUTS_LOOP (tree LOOP_NODES) m rest e
+  starts : (rest : Stay) (e : Run) → Head s a n stop n rest e → (m : ℕ) × Repeats own most_steps PUTS_LOOP (tree LOOP_NODES) m rest e
   starts rest e h = (suc n, repeats (suc n) n rest e (omega arith) h)
 
 room_short : (a : ℕ) → room a + 1 ≤ longest
 unfolding longest
 room_short a = let h = room_few a in omega (arith, h)
 
-pub serves : ServesBy own most_nodes (call A3E) PUTS (tree NODES) PUTS_LOOP (tree LOOP_NODES)
+pub serves : ServesBy own most_steps (call A3E) PUTS (tree NODES) PUTS_LOOP (tree LOOP_NODES)
 serves s d z m h =
     let C : Calls = calls kernel_words (own ++ tested_there) in
     let know : KnowsRoom ROOM C = knows_room ROOM tested_there in
@@ -89,11 +89,11 @@ serves s d z m h =
     let n : ℕ = room a + 1 in
     let sp = span_some a n 1 small (λ e. absurd (omega (arith, e))) (omega arith) in
     let few : n ≤ longest = room_short a in
-    let first : List Access → Stay → Goal = λ told rest g. (g.passed ≤ most_nodes) × ((j : ℕ) × Repeats own most_nodes PUTS_LOOP (tree LOOP_NODES) j rest g) in
-    start C know.fair (tree NODES) PUTS (λ _. ⊥) (λ to e. Passes PUTS_LOOP first (puts s) most_nodes to e) (begun (called_with (registers_of s) d) z m) (
-      λ none. passed PUTS_LOOP first (puts s) most_nodes _ _ refl refl (answers_now s most_nodes _ (puts s) (null a (answered s 0) (write_text longest s a) none) h.holds (omega arith)),
+    let first : List Access → Stay → Goal = λ told rest g. (g.steps ≤ most_steps) × ((j : ℕ) × Repeats own most_steps PUTS_LOOP (tree LOOP_NODES) j rest g) in
+    start C know.fair (tree NODES) PUTS (λ _. ⊥) (λ to e. Passes PUTS_LOOP first (puts s) most_steps to e) (begun (called_with (registers_of s) d) z m) (
+      λ none. passed PUTS_LOOP first (puts s) most_steps _ _ refl refl (answers_now s most_steps _ (puts s) (null a (answered s 0) (write_text longest s a) none) h.holds (omega arith)),
       λ some.
-          know.room _ _ _ _ _ _ _ small (λ x y p up. enters PUTS_LOOP first (puts s) most_nodes _ refl refl (
+          know.room _ _ _ _ _ _ _ small (λ x y p up. enters PUTS_LOOP first (puts s) most_steps _ refl refl (
             omega arith, starts s a n ((a + room a) % 2 ^ 32) sp (puts s) _ (record { fuel = longest; some = few; is = not_null a (answered s 0) (write_text longest s a) some; holds = h.holds; r11 = refl; r26 = refl; cursor = record { low = omega arith; high = sp.low; count = refl } }),
           )),
     )

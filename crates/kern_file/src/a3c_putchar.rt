@@ -5,7 +5,7 @@ ghost use Rattle.psx_flow.specs.Well.{is_well};
 ghost use Rattle.psx_flow.specs.Spaced.{is_spaced};
 ghost use Rattle.abs_kernel.specs.declared.calls.CallId.TheVariants.{A3C};
 ghost use Rattle.abs_kernel.specs.Calls.{call};
-ghost use Rattle.kern_stay.specs.Doors.{Serves, most_nodes};
+ghost use Rattle.kern_stay.specs.Doors.{Serves, most_steps};
 ghost use Rattle.kern_file.specs.declared.a3c_putchar.TheConstants.{NODES};
 ghost use Rattle.kern_file.specs.declared.places.TheConstants.{PUTCHAR};
 
@@ -28,7 +28,7 @@ pub fn putchar() -> &'static [Node]
     ensures listing { result.now ≡ NODES }
     ensures well { IsTrue (is_well result.now) }
     ensures spaced { IsTrue (is_spaced result.now) }
-    ensures serves { IfSome (tree_of result.now) (λ tree. Serves [] most_nodes (call A3C) PUTCHAR tree) }
+    ensures serves { IfSome (tree_of result.now) (λ tree. Serves [] most_steps (call A3C) PUTCHAR tree) }
 {
     &NODES
 }

@@ -5,7 +5,7 @@ ghost use Rattle.psx_flow.specs.Spaced.{is_spaced};
 ghost use Rattle.abs_kernel.specs.declared.calls.CallId.TheVariants.{A3E};
 ghost use Rattle.abs_kernel.specs.Calls.{call};
 ghost use Rattle.kern_stay.specs.Shared.{tree};
-ghost use Rattle.kern_stay.specs.Doors.{most_nodes};
+ghost use Rattle.kern_stay.specs.Doors.{most_steps};
 ghost use Rattle.kern_stay.specs.Loops.{ServesBy};
 ghost use Rattle.kern_file.specs.Own.{own};
 ghost use Rattle.kern_file.specs.declared.a3e_puts.TheConstants.{NODES, LOOP_NODES};
@@ -52,7 +52,7 @@ pub fn puts() -> (&'static [Node], &'static [Node])
     ensures turns_well { IsTrue (is_well result.1.now) }
     ensures spaced { IsTrue (is_spaced result.0.now) }
     ensures turns_spaced { IsTrue (is_spaced result.1.now) }
-    ensures serves { ServesBy own most_nodes (call A3E) PUTS (tree result.0.now) PUTS_LOOP (tree result.1.now) }
+    ensures serves { ServesBy own most_steps (call A3E) PUTS (tree result.0.now) PUTS_LOOP (tree result.1.now) }
 {
     (&NODES, &LOOP_NODES)
 }

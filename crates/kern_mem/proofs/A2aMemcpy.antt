@@ -13,7 +13,7 @@ use Rattle.abs_kernel.specs.UserBytes.{reads_byte, writes_byte, bad_pointer, fol
 use Rattle.abs_kernel.specs.Memcpy.{copy_bytes, memcpy}
 use Rattle.kern_stay.specs.Room.{room}
 use Rattle.kern_stay.specs.Shared.{tree, tested_there}
-use Rattle.kern_stay.specs.Doors.{Holds, Through, Serves, called_with, begun, most_nodes}
+use Rattle.kern_stay.specs.Doors.{Holds, Through, Serves, called_with, begun, most_steps}
 use Rattle.kern_stay.proofs.RoomGiven.{KnowsRoom, knows_room, true_then, false_then}
 use Rattle.kern_stay.proofs.Holding.{holds_byte}
 use Rattle.kern_stay.proofs.Ending.{no_count, a_count, through, answers, Left, left_all, left_is, left_read, left_unread, left_written, left_unwritten, user_byte}
@@ -44,8 +44,8 @@ record Head (stay : Stay) (s : KernelState) (a b n m flag second k : ℕ) (e : R
   memory : Memory
   holds : Holds (now s memory) e.bytes
   most : ℕ
-  left : Left most_nodes stay (copy_bytes k (now s memory) e.regs.r9 e.regs.r8 (done b)) most
-  within : e.passed + 10 ≤ most
+  left : Left most_steps stay (copy_bytes k (now s memory) e.regs.r9 e.regs.r8 (done b)) most
+  within : e.steps + 20 ≤ most
   quiet : ports e.seen ≡ []
   r4 : e.regs.r4 ≡ b
   r10 : e.regs.r10 ≡ flag
@@ -55,7 +55,7 @@ record Head (stay : Stay) (s : KernelState) (a b n m flag second k : ℕ) (e : R
 
 module _ (C : Calls) (know : KnowsRoom ROOM C) (stay : Stay) (s : KernelState) (valid : Valid s) (a b n m flag second : ℕ) (pair : Pair a b n m flag second) where
   abbrev G : ℕ → Goal
-  G to e = Through stay most_nodes to e
+  G to e = Through stay most_steps to e
 
   abbrev Inv : ℕ → Goal
   Inv k e = Head stay s a b n m flag second k e
@@ -79,12 +79,12 @@ module _ (C : Calls) (know : KnowsRoom ROOM C) (stay : Stay) (s : KernelState) (
             λ nz.
                 let p = other_bad a b n m flag second k x y pair h.cursors (eq ∙ h.r11) (λ z. ne (h.r10 ∙ z)) (λ z. nz (h.r13 ∙ z)) in
                 let l = left_read stay t x (write x y k t) h.most p.0 (left_is stay _ _ h.most (copy_more k t y x b p.1.some) h.left) in
-                let l = left_unwritten stay t y (v % 2 ^ 8) (next x y k) (h.most + 32) p.1.user l in
-                stops stay (bad_pointer t y) (h.most + 32 + 32) t _ l h.quiet refl h.holds (omega arith),
+                let l = left_unwritten stay t y (v % 2 ^ 8) (next x y k) (h.most + 128) p.1.user l in
+                stops stay (bad_pointer t y) (h.most + 128 + 128) t _ l h.quiet refl h.holds (omega arith),
             λ z.
                 let p = first_bad a b n m flag second k x y pair h.cursors (eq ∙ h.r11) (λ z. ne (h.r10 ∙ z)) (sym h.r13 ∙ z) in
                 let l = left_unread stay t x (write x y k t) h.most p.user (left_is stay _ _ h.most (copy_more k t y x b p.some) h.left) in
-                stops stay (bad_pointer t x) (h.most + 32) t _ l h.quiet refl h.holds (omega arith),
+                stops stay (bad_pointer t x) (h.most + 128) t _ l h.quiet refl h.holds (omega arith),
           ),
           λ z.
               let l = left_is stay _ _ h.most (copy_none k t y x b (both_done a b n m flag second k x y pair h.cursors (eq ∙ h.r11) (sym h.r10 ∙ z))) h.left in
@@ -93,12 +93,12 @@ module _ (C : Calls) (know : KnowsRoom ROOM C) (stay : Stay) (s : KernelState) (
         again = λ ne.
             let g = both_come a b n m flag second k x y pair h.cursors (λ q. ne (q ∙ sym h.r11)) in
             let l = left_read stay t x (write x y k t) h.most g.user_x (left_is stay _ _ h.most (copy_more k t y x b g.some) h.left) in
-            let l = left_written stay t y (v % 2 ^ 8) (next x y k) (h.most + 32) g.user_y l in
+            let l = left_written stay t y (v % 2 ^ 8) (next x y k) (h.most + 128) g.user_y l in
             let is : byte e.bytes (place x) ≡ v = user_byte t e.bytes h.holds x g.user_x in
             let stored : Holds (with_byte t y (v % 2 ^ 8)) (put_byte e.bytes (place y) (byte e.bytes (place x) % 2 ^ 8)) =
             subst (λ u. Holds (with_byte t y (v % 2 ^ 8)) (put_byte e.bytes (place y) (u % 2 ^ 8))) (sym is) (holds_byte t (valid_moved s h.memory s.random s.running valid valid.running) e.bytes h.holds y (v % 2 ^ 8) g.user_y) in
             rw (g.here_x, g.sort_x, g.here_y, g.sort_y)
-            (k - 1, g.less, record { memory = put_byte h.memory (place y) (v % 2 ^ 8); holds = stored; most = h.most + 32 + 32; left = l; within = omega arith; quiet = h.quiet; r4 = h.r4; r10 = h.r10; r11 = h.r11; r13 = h.r13; cursors = g.next });
+            (k - 1, g.less, record { memory = put_byte h.memory (place y) (v % 2 ^ 8); holds = stored; most = h.most + 128 + 128; left = l; within = omega arith; quiet = h.quiet; r4 = h.r4; r10 = h.r10; r11 = h.r11; r13 = h.r13; cursors = g.next });
       }
 
   loops : (e : Run) → Inv n e → FromLoop C (tree NODES) G e
@@ -117,7 +117,7 @@ null_first p q x y e = ap (λ b. if b || nat_eq q 0 then x else y) (eq-eqb p 0 e
 null_other : (p q : ℕ) (x y : Stay) → (p ≡ 0 → ⊥) → q ≡ 0 → (if nat_eq p 0 || nat_eq q 0 then x else y) ≡ x
 null_other p q x y ne e = ap (λ b. if b || nat_eq q 0 then x else y) (ne_eqb p 0 ne) ∙ null q x y e
 
-pub serves : Serves own most_nodes memcpy MEMCPY (tree NODES)
+pub serves : Serves own most_steps memcpy MEMCPY (tree NODES)
 serves s d z m h =
     let C : Calls = calls kernel_words (own ++ tested_there) in
     let know : KnowsRoom ROOM C = knows_room ROOM tested_there in
@@ -128,34 +128,34 @@ serves s d z m h =
     let small_a : a < 2 ^ 32 = h.words 5 in
     let second : ℕ = truth (nat_lt (room b) (room a)) in
     let go : Stay = copy_bytes (count_of n) s b a (done b) in
-    start C know.fair (tree NODES) MEMCPY (λ _. ⊥) (λ to e. Through (memcpy s) most_nodes to e) (begun (called_with (registers_of s) d) z m) (
-      λ none. through (memcpy s) most_nodes _ _ refl (answers most_nodes s _ (memcpy s) (null_first b a (answered s 0) go none) h.holds (omega arith)),
+    start C know.fair (tree NODES) MEMCPY (λ _. ⊥) (λ to e. Through (memcpy s) most_steps to e) (begun (called_with (registers_of s) d) z m) (
+      λ none. through (memcpy s) most_steps _ _ refl (answers most_steps s _ (memcpy s) (null_first b a (answered s 0) go none) h.holds (omega arith)),
       λ nd. (
-        λ none. through (memcpy s) most_nodes _ _ refl (answers most_nodes s _ (memcpy s) (null_other b a (answered s 0) go nd none) h.holds (omega arith)),
+        λ none. through (memcpy s) most_steps _ _ refl (answers most_steps s _ (memcpy s) (null_other b a (answered s 0) go nd none) h.holds (omega arith)),
         λ ns. (
-          λ few. through (memcpy s) most_nodes _ _ refl (answers most_nodes s _ (memcpy s) (begins s 0 nd ns (no_count n few)) h.holds (omega arith)),
+          λ few. through (memcpy s) most_steps _ _ refl (answers most_steps s _ (memcpy s) (begins s 0 nd ns (no_count n few)) h.holds (omega arith)),
           λ pos.
-              let l : Left most_nodes (memcpy s) (copy_bytes n s b a (done b)) most_nodes = left_is (memcpy s) (memcpy s) (copy_bytes n s b a (done b)) most_nodes (begins s n nd ns (a_count n pos.1)) (left_all (memcpy s)) in
+              let l : Left most_steps (memcpy s) (copy_bytes n s b a (done b)) most_steps = left_is (memcpy s) (memcpy s) (copy_bytes n s b a (done b)) most_steps (begins s n nd ns (a_count n pos.1)) (left_all (memcpy s)) in
               know.room _ _ _ _ _ _ _ small_b (λ x y p up. know.room _ _ _ _ _ _ _ small_a (λ f g q more. (
                 λ nz.
                     let flag : ℕ = truth (nat_lt (room b) n) in
                     let less = true_then (room b) (room a) nz in (
                       λ enough. loops C know (memcpy s) s h.valid a b n n flag second (pair_all a b n flag second small_a small_b enough (let fits = false_then (room b) n enough in omega (arith, fits, less)) (false_then (room b) n enough)) _
-                      record { memory = s.memory; holds = h.holds; most = most_nodes; left = l; within = omega arith; quiet = refl; r4 = refl; r10 = refl; r11 = refl; r13 = refl; cursors = record { first = refl; other = refl; most = omega arith; room = omega arith } },
+                      record { memory = s.memory; holds = h.holds; most = most_steps; left = l; within = omega arith; quiet = refl; r4 = refl; r10 = refl; r11 = refl; r13 = refl; cursors = record { first = refl; other = refl; most = omega arith; room = omega arith } },
                       λ ne.
                           let bad = pair_other a b n flag second small_a small_b ne nz (true_then (room b) n ne) less in
                           loops C know (memcpy s) s h.valid a b n (room b) flag second bad _
-                          record { memory = s.memory; holds = h.holds; most = most_nodes; left = l; within = omega arith; quiet = refl; r4 = refl; r10 = refl; r11 = refl; r13 = refl; cursors = record { first = refl; other = refl; most = omega arith; room = omega arith } },
+                          record { memory = s.memory; holds = h.holds; most = most_steps; left = l; within = omega arith; quiet = refl; r4 = refl; r10 = refl; r11 = refl; r13 = refl; cursors = record { first = refl; other = refl; most = omega arith; room = omega arith } },
                     ),
                 λ z.
                     let flag : ℕ = truth (nat_lt (room a) n) in
                     let le = false_then (room b) (room a) z in (
                       λ enough. loops C know (memcpy s) s h.valid a b n n flag second (pair_all a b n flag second small_a small_b enough (false_then (room a) n enough) (let fits = false_then (room a) n enough in omega (arith, fits, le))) _
-                      record { memory = s.memory; holds = h.holds; most = most_nodes; left = l; within = omega arith; quiet = refl; r4 = refl; r10 = refl; r11 = refl; r13 = refl; cursors = record { first = refl; other = refl; most = omega arith; room = omega arith } },
+                      record { memory = s.memory; holds = h.holds; most = most_steps; left = l; within = omega arith; quiet = refl; r4 = refl; r10 = refl; r11 = refl; r13 = refl; cursors = record { first = refl; other = refl; most = omega arith; room = omega arith } },
                       λ ne.
                           let bad = pair_first a b n flag second small_a small_b ne z (true_then (room a) n ne) le in
                           loops C know (memcpy s) s h.valid a b n (room a) flag second bad _
-                          record { memory = s.memory; holds = h.holds; most = most_nodes; left = l; within = omega arith; quiet = refl; r4 = refl; r10 = refl; r11 = refl; r13 = refl; cursors = record { first = refl; other = refl; most = omega arith; room = omega arith } },
+                          record { memory = s.memory; holds = h.holds; most = most_steps; left = l; within = omega arith; quiet = refl; r4 = refl; r10 = refl; r11 = refl; r13 = refl; cursors = record { first = refl; other = refl; most = omega arith; room = omega arith } },
                     ),
               ))),
         ),

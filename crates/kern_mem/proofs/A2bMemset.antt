@@ -15,7 +15,7 @@ use Rattle.abs_kernel.specs.declared.calls.CallId.TheVariants.{A2B}
 use Rattle.abs_kernel.specs.Calls.{call}
 use Rattle.kern_stay.specs.Room.{room}
 use Rattle.kern_stay.specs.Shared.{tree, tested_there}
-use Rattle.kern_stay.specs.Doors.{Holds, Through, Serves, called_with, begun, most_nodes}
+use Rattle.kern_stay.specs.Doors.{Holds, Through, Serves, called_with, begun, most_steps}
 use Rattle.kern_stay.proofs.RoomGiven.{KnowsRoom, knows_room, true_then, false_then}
 use Rattle.kern_stay.proofs.RoomLeft.{Span, span_all, span_some}
 use Rattle.kern_stay.proofs.Holding.{holds_byte}
@@ -46,8 +46,8 @@ record Head (stay : Stay) (s : KernelState) (a n v b stop flag k : ℕ) (e : Run
   memory : Memory
   holds : Holds (now s memory) e.bytes
   most : ℕ
-  left : Left most_nodes stay (fill k (now s memory) e.regs.r8 v (done a)) most
-  within : e.passed + 10 ≤ most
+  left : Left most_steps stay (fill k (now s memory) e.regs.r8 v (done a)) most
+  within : e.steps + 20 ≤ most
   quiet : ports e.seen ≡ []
   r4 : e.regs.r4 ≡ a
   r5 : e.regs.r5 ≡ b
@@ -57,7 +57,7 @@ record Head (stay : Stay) (s : KernelState) (a n v b stop flag k : ℕ) (e : Run
 
 module _ (C : Calls) (know : KnowsRoom ROOM C) (stay : Stay) (s : KernelState) (valid : Valid s) (a n b stop flag : ℕ) (span : Span a n stop flag) where
   abbrev G : ℕ → Goal
-  G to e = Through stay most_nodes to e
+  G to e = Through stay most_steps to e
 
   abbrev Inv : ℕ → Goal
   Inv k e = Head stay s a n (b % 2 ^ 8) b stop flag k e
@@ -78,7 +78,7 @@ module _ (C : Calls) (know : KnowsRoom ROOM C) (stay : Stay) (s : KernelState) (
           λ ne.
               let p = done_bad a n stop flag k x span h.cursor (eq ∙ h.r11) (λ z. ne (h.r10 ∙ z)) in
               let l = left_unwritten stay t x v (next x k) h.most p.user (left_is stay _ _ h.most (fill_more k t x v a p.some) h.left) in
-              stops stay (bad_pointer t x) (h.most + 32) t _ l h.quiet refl h.holds (omega arith),
+              stops stay (bad_pointer t x) (h.most + 128) t _ l h.quiet refl h.holds (omega arith),
           λ z.
               let l = left_is stay _ _ h.most (fill_none k t x v a (done_all a n stop flag k x span h.cursor (eq ∙ h.r11) (sym h.r10 ∙ z))) h.left in
               leaves stay (answered t a) h.most t _ l h.quiet (ap (answered t) (sym h.r4)) h.holds (omega arith),
@@ -89,7 +89,7 @@ module _ (C : Calls) (know : KnowsRoom ROOM C) (stay : Stay) (s : KernelState) (
             let stored : Holds (with_byte t x v) (put_byte e.bytes (place x) (e.regs.r5 % 2 ^ 8)) =
             subst (λ y. Holds (with_byte t x v) (put_byte e.bytes (place x) (y % 2 ^ 8))) (sym h.r5) (holds_byte t (valid_moved s h.memory s.random s.running valid valid.running) e.bytes h.holds x v g.user) in
             rw (g.here, g.sort)
-            (k - 1, g.less, record { memory = put_byte h.memory (place x) v; holds = stored; most = h.most + 32; left = l; within = omega arith; quiet = h.quiet; r4 = h.r4; r5 = h.r5; r10 = h.r10; r11 = h.r11; cursor = g.next });
+            (k - 1, g.less, record { memory = put_byte h.memory (place x) v; holds = stored; most = h.most + 128; left = l; within = omega arith; quiet = h.quiet; r4 = h.r4; r5 = h.r5; r10 = h.r10; r11 = h.r11; cursor = g.next });
       }
 
   loops : (e : Run) → Inv n e → FromLoop C (tree NODES) G e
@@ -99,7 +99,7 @@ module _ (C : Calls) (know : KnowsRoom ROOM C) (stay : Stay) (s : KernelState) (
 begins : (s : KernelState) (n : ℕ) → ((registers_of s).r4 ≡ 0 → ⊥) → count_of (registers_of s).r6 ≡ n → memset s ≡ fill n s (registers_of s).r4 ((registers_of s).r5 % 2 ^ 8) (done (registers_of s).r4)
 begins s n ne e = let r = registers_of s in not_null r.r4 (answered s 0) (fill (count_of r.r6) s r.r4 (r.r5 % 2 ^ 8) (done r.r4)) ne ∙ ap (λ n. fill n s r.r4 (r.r5 % 2 ^ 8) (done r.r4)) e
 
-pub serves : Serves own most_nodes (call A2B) MEMSET (tree NODES)
+pub serves : Serves own most_steps (call A2B) MEMSET (tree NODES)
 serves s d z m h =
     let C : Calls = calls kernel_words (own ++ tested_there) in
     let know : KnowsRoom ROOM C = knows_room ROOM tested_there in
@@ -108,21 +108,21 @@ serves s d z m h =
     let n : ℕ = (registers_of s).r6 in
     let small : a < 2 ^ 32 = h.words 4 in
     let flag : ℕ = truth (nat_lt (room a) n) in
-    start C know.fair (tree NODES) MEMSET (λ _. ⊥) (λ to e. Through (memset s) most_nodes to e) (begun (called_with (registers_of s) d) z m) (
-      λ none. through (memset s) most_nodes _ _ refl (answers most_nodes s _ (memset s) (null (registers_of s).r4 (answered s 0) _ none) h.holds (omega arith)),
+    start C know.fair (tree NODES) MEMSET (λ _. ⊥) (λ to e. Through (memset s) most_steps to e) (begun (called_with (registers_of s) d) z m) (
+      λ none. through (memset s) most_steps _ _ refl (answers most_steps s _ (memset s) (null (registers_of s).r4 (answered s 0) _ none) h.holds (omega arith)),
       λ some. (
-        λ few. through (memset s) most_nodes _ _ refl (answers most_nodes s _ (memset s) (begins s 0 some (no_count n few)) h.holds (omega arith)),
+        λ few. through (memset s) most_steps _ _ refl (answers most_steps s _ (memset s) (begins s 0 some (no_count n few)) h.holds (omega arith)),
         λ pos.
-            let l : Left most_nodes (memset s) (fill n s a (b % 2 ^ 8) (done a)) most_nodes = left_is (memset s) (memset s) (fill n s a (b % 2 ^ 8) (done a)) most_nodes (begins s n some (a_count n pos.1)) (left_all (memset s)) in
+            let l : Left most_steps (memset s) (fill n s a (b % 2 ^ 8) (done a)) most_steps = left_is (memset s) (memset s) (fill n s a (b % 2 ^ 8) (done a)) most_steps (begins s n some (a_count n pos.1)) (left_all (memset s)) in
             know.room _ _ _ _ _ _ _ small (λ x y p up. (
               λ q.
                   let sp = span_all a n flag small q (false_then (room a) n q) in
                   loops C know (memset s) s h.valid a n b ((a + n) % 2 ^ 32) flag sp _
-                  record { memory = s.memory; holds = h.holds; most = most_nodes; left = l; within = omega arith; quiet = refl; r4 = refl; r5 = refl; r10 = refl; r11 = refl; cursor = record { low = omega arith; high = sp.low; count = refl } },
+                  record { memory = s.memory; holds = h.holds; most = most_steps; left = l; within = omega arith; quiet = refl; r4 = refl; r5 = refl; r10 = refl; r11 = refl; cursor = record { low = omega arith; high = sp.low; count = refl } },
               λ ne.
                   let sp = span_some a n flag small ne (true_then (room a) n ne) in
                   loops C know (memset s) s h.valid a n b ((a + room a) % 2 ^ 32) flag sp _
-                  record { memory = s.memory; holds = h.holds; most = most_nodes; left = l; within = omega arith; quiet = refl; r4 = refl; r5 = refl; r10 = refl; r11 = refl; cursor = record { low = omega arith; high = sp.low; count = refl } },
+                  record { memory = s.memory; holds = h.holds; most = most_steps; left = l; within = omega arith; quiet = refl; r4 = refl; r5 = refl; r10 = refl; r11 = refl; cursor = record { low = omega arith; high = sp.low; count = refl } },
             )),
       ),
     )

@@ -13,7 +13,7 @@ use Rattle.abs_kernel.specs.declared.calls.CallId.TheVariants.{A2E}
 use Rattle.abs_kernel.specs.Calls.{call}
 use Rattle.kern_stay.specs.Room.{room}
 use Rattle.kern_stay.specs.Shared.{tree, tested_there}
-use Rattle.kern_stay.specs.Doors.{Holds, Through, Serves, called_with, begun, most_nodes}
+use Rattle.kern_stay.specs.Doors.{Holds, Through, Serves, called_with, begun, most_steps}
 use Rattle.kern_stay.proofs.RoomGiven.{KnowsRoom, knows_room, true_then, false_then}
 use Rattle.kern_stay.proofs.RoomLeft.{Span, span_all, span_some}
 use Rattle.kern_stay.proofs.Ending.{no_count, a_count, low_byte, through, answers, Left, left_all, left_is, left_read, left_unread, user_byte}
@@ -33,8 +33,8 @@ find_none k s at c e = ap (λ n. find_byte n s at c) e
 -- at the loop's head, with k bytes to come
 record Head (stay : Stay) (s : KernelState) (m : Memory) (a n c stop flag k : ℕ) (e : Run) : Type 0 where
   most : ℕ
-  left : Left most_nodes stay (find_byte k s e.regs.r8 c) most
-  within : e.passed + 10 ≤ most
+  left : Left most_steps stay (find_byte k s e.regs.r8 c) most
+  within : e.steps + 20 ≤ most
   bytes : e.bytes ≡ m
   quiet : ports e.seen ≡ []
   r5 : e.regs.r5 ≡ c
@@ -44,7 +44,7 @@ record Head (stay : Stay) (s : KernelState) (m : Memory) (a n c stop flag k : �
 
 module _ (C : Calls) (know : KnowsRoom ROOM C) (stay : Stay) (s : KernelState) (m : Memory) (holds : Holds s m) (a n c stop flag : ℕ) (span : Span a n stop flag) where
   abbrev G : ℕ → Goal
-  G to e = Through stay most_nodes to e
+  G to e = Through stay most_steps to e
 
   abbrev Inv : ℕ → Goal
   Inv k e = Head stay s m a n c stop flag k e
@@ -63,7 +63,7 @@ module _ (C : Calls) (know : KnowsRoom ROOM C) (stay : Stay) (s : KernelState) (
           λ ne.
               let b = done_bad a n stop flag k x span h.cursor (eq ∙ h.r11) (λ z. ne (h.r10 ∙ z)) in
               let l = left_unread stay s x (next x k) h.most b.user (left_is stay _ _ h.most (find_more k s x c b.some) h.left) in
-              stops stay (bad_pointer s x) (h.most + 32) s _ l h.quiet refl there (omega arith),
+              stops stay (bad_pointer s x) (h.most + 128) s _ l h.quiet refl there (omega arith),
           λ z.
               let l = left_is stay _ _ h.most (find_none k s x c (done_all a n stop flag k x span h.cursor (eq ∙ h.r11) (sym h.r10 ∙ z))) h.left in
               leaves stay (answered s 0) h.most s _ l h.quiet refl there (omega arith),
@@ -75,11 +75,11 @@ module _ (C : Calls) (know : KnowsRoom ROOM C) (stay : Stay) (s : KernelState) (
             let l = left_read stay s x (next x k) h.most g.user (left_is stay _ _ h.most (find_more k s x c g.some) h.left) in
             rw (g.here, g.sort) (
               λ eq.
-                  let lf = left_is stay _ _ (h.most + 32) (ap (λ b. if b then answered s x else find_byte (k - 1) s (following x) c) (eq-eqb v c (sym is ∙ eq ∙ h.r5))) l in
-                  leaves stay (answered s x) (h.most + 32) s _ lf h.quiet (ap (answered s) (sym g.back)) there (omega arith),
+                  let lf = left_is stay _ _ (h.most + 128) (ap (λ b. if b then answered s x else find_byte (k - 1) s (following x) c) (eq-eqb v c (sym is ∙ eq ∙ h.r5))) l in
+                  leaves stay (answered s x) (h.most + 128) s _ lf h.quiet (ap (answered s) (sym g.back)) there (omega arith),
               λ nf.
-                  let ln = left_is stay _ _ (h.most + 32) (ap (λ b. if b then answered s x else find_byte (k - 1) s (following x) c) (ne_eqb v c (λ q. nf (is ∙ q ∙ sym h.r5)))) l in
-                  (k - 1, g.less, record { most = h.most + 32; left = ln; within = omega arith; bytes = h.bytes; quiet = h.quiet; r5 = h.r5; r10 = h.r10; r11 = h.r11; cursor = g.next }),
+                  let ln = left_is stay _ _ (h.most + 128) (ap (λ b. if b then answered s x else find_byte (k - 1) s (following x) c) (ne_eqb v c (λ q. nf (is ∙ q ∙ sym h.r5)))) l in
+                  (k - 1, g.less, record { most = h.most + 128; left = ln; within = omega arith; bytes = h.bytes; quiet = h.quiet; r5 = h.r5; r10 = h.r10; r11 = h.r11; cursor = g.next }),
             );
       }
 
@@ -92,7 +92,7 @@ begins s n ne e =
     let r = registers_of s in
     not_null r.r4 (answered s 0) (find_byte (count_of r.r6) s r.r4 (r.r5 % 2 ^ 8)) ne ∙ (λ i. find_byte (e i) s r.r4 (sym (low_byte r.r5) i))
 
-pub serves : Serves own most_nodes (call A2E) MEMCHR (tree NODES)
+pub serves : Serves own most_steps (call A2E) MEMCHR (tree NODES)
 serves s d z m h =
     let C : Calls = calls kernel_words (own ++ tested_there) in
     let know : KnowsRoom ROOM C = knows_room ROOM tested_there in
@@ -102,21 +102,21 @@ serves s d z m h =
     let c : ℕ = b * 2 ^ 24 % 2 ^ 32 / 2 ^ 24 in
     let small : a < 2 ^ 32 = h.words 4 in
     let flag : ℕ = truth (nat_lt (room a) n) in
-    start C know.fair (tree NODES) MEMCHR (λ _. ⊥) (λ to e. Through (memchr s) most_nodes to e) (begun (called_with (registers_of s) d) z m) (
-      λ none. through (memchr s) most_nodes _ _ refl (answers most_nodes s _ (memchr s) (null (registers_of s).r4 (answered s 0) _ none) h.holds (omega arith)),
+    start C know.fair (tree NODES) MEMCHR (λ _. ⊥) (λ to e. Through (memchr s) most_steps to e) (begun (called_with (registers_of s) d) z m) (
+      λ none. through (memchr s) most_steps _ _ refl (answers most_steps s _ (memchr s) (null (registers_of s).r4 (answered s 0) _ none) h.holds (omega arith)),
       λ some. (
-        λ few. through (memchr s) most_nodes _ _ refl (answers most_nodes s _ (memchr s) (begins s 0 some (no_count n few)) h.holds (omega arith)),
+        λ few. through (memchr s) most_steps _ _ refl (answers most_steps s _ (memchr s) (begins s 0 some (no_count n few)) h.holds (omega arith)),
         λ pos.
-            let l : Left most_nodes (memchr s) (find_byte n s a c) most_nodes = left_is (memchr s) (memchr s) (find_byte n s a c) most_nodes (begins s n some (a_count n pos.1)) (left_all (memchr s)) in
+            let l : Left most_steps (memchr s) (find_byte n s a c) most_steps = left_is (memchr s) (memchr s) (find_byte n s a c) most_steps (begins s n some (a_count n pos.1)) (left_all (memchr s)) in
             know.room _ _ _ _ _ _ _ small (λ x y p up. (
               λ q.
                   let sp = span_all a n flag small q (false_then (room a) n q) in
                   loops C know (memchr s) s m h.holds a n c ((a + n) % 2 ^ 32) flag sp _
-                  record { most = most_nodes; left = l; within = omega arith; bytes = refl; quiet = refl; r5 = refl; r10 = refl; r11 = refl; cursor = record { low = omega arith; high = sp.low; count = refl } },
+                  record { most = most_steps; left = l; within = omega arith; bytes = refl; quiet = refl; r5 = refl; r10 = refl; r11 = refl; cursor = record { low = omega arith; high = sp.low; count = refl } },
               λ ne.
                   let sp = span_some a n flag small ne (true_then (room a) n ne) in
                   loops C know (memchr s) s m h.holds a n c ((a + room a) % 2 ^ 32) flag sp _
-                  record { most = most_nodes; left = l; within = omega arith; bytes = refl; quiet = refl; r5 = refl; r10 = refl; r11 = refl; cursor = record { low = omega arith; high = sp.low; count = refl } },
+                  record { most = most_steps; left = l; within = omega arith; bytes = refl; quiet = refl; r5 = refl; r10 = refl; r11 = refl; cursor = record { low = omega arith; high = sp.low; count = refl } },
             )),
       ),
     )

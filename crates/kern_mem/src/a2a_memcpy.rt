@@ -4,7 +4,7 @@ ghost use Rattle.psx_flow.specs.Reading.{tree_of};
 ghost use Rattle.psx_flow.specs.Well.{is_well};
 ghost use Rattle.psx_flow.specs.Spaced.{is_spaced};
 ghost use Rattle.abs_kernel.specs.Memcpy.{memcpy};
-ghost use Rattle.kern_stay.specs.Doors.{Serves, most_nodes};
+ghost use Rattle.kern_stay.specs.Doors.{Serves, most_steps};
 ghost use Rattle.kern_mem.specs.Own.{own};
 ghost use Rattle.kern_mem.specs.declared.a2a_memcpy.TheConstants.{NODES};
 ghost use Rattle.kern_mem.specs.declared.places.TheConstants.{MEMCPY};
@@ -67,7 +67,7 @@ pub fn memcpy() -> &'static [Node]
     ensures listing { result.now ≡ NODES }
     ensures well { IsTrue (is_well result.now) }
     ensures spaced { IsTrue (is_spaced result.now) }
-    ensures serves { IfSome (tree_of result.now) (λ tree. Serves own most_nodes memcpy MEMCPY tree) }
+    ensures serves { IfSome (tree_of result.now) (λ tree. Serves own most_steps memcpy MEMCPY tree) }
 {
     &NODES
 }

@@ -5,7 +5,7 @@ ghost use Rattle.psx_flow.specs.Well.{is_well};
 ghost use Rattle.psx_flow.specs.Spaced.{is_spaced};
 ghost use Rattle.abs_kernel.specs.declared.calls.CallId.TheVariants.{A2B};
 ghost use Rattle.abs_kernel.specs.Calls.{call};
-ghost use Rattle.kern_stay.specs.Doors.{Serves, most_nodes};
+ghost use Rattle.kern_stay.specs.Doors.{Serves, most_steps};
 ghost use Rattle.kern_mem.specs.Own.{own};
 ghost use Rattle.kern_mem.specs.declared.a2b_memset.TheConstants.{NODES};
 ghost use Rattle.kern_mem.specs.declared.places.TheConstants.{MEMSET};
@@ -48,7 +48,7 @@ pub fn memset() -> &'static [Node]
     ensures listing { result.now ≡ NODES }
     ensures well { IsTrue (is_well result.now) }
     ensures spaced { IsTrue (is_spaced result.now) }
-    ensures serves { IfSome (tree_of result.now) (λ tree. Serves own most_nodes (call A2B) MEMSET tree) }
+    ensures serves { IfSome (tree_of result.now) (λ tree. Serves own most_steps (call A2B) MEMSET tree) }
 {
     &NODES
 }

@@ -5,7 +5,7 @@ ghost use Rattle.psx_flow.specs.Well.{is_well};
 ghost use Rattle.psx_flow.specs.Spaced.{is_spaced};
 ghost use Rattle.abs_kernel.specs.declared.calls.CallId.TheVariants.{A30};
 ghost use Rattle.abs_kernel.specs.Calls.{call};
-ghost use Rattle.kern_stay.specs.Doors.{Serves, most_nodes};
+ghost use Rattle.kern_stay.specs.Doors.{Serves, most_steps};
 ghost use Rattle.kern_mem.specs.declared.a30_srand.TheConstants.{NODES};
 ghost use Rattle.kern_mem.specs.declared.places.TheConstants.{SRAND};
 
@@ -26,7 +26,7 @@ pub fn srand() -> &'static [Node]
     ensures listing { result.now ≡ NODES }
     ensures well { IsTrue (is_well result.now) }
     ensures spaced { IsTrue (is_spaced result.now) }
-    ensures serves { IfSome (tree_of result.now) (λ tree. Serves [] most_nodes (call A30) SRAND tree) }
+    ensures serves { IfSome (tree_of result.now) (λ tree. Serves [] most_steps (call A30) SRAND tree) }
 {
     &NODES
 }

@@ -1,5 +1,5 @@
 -- The listing of COPY copies words.
-use Rattle.psx_flow.proofs.Kit.{◌≡◌, ℕ, suc, ◌+◌, ◌-◌, ◌*◌, ◌%◌, ◌^◌, ◌<◌, ◌≤◌, ◌⊎◌, inl, inr, [], true, false, refl, sym, ap, ◌∙◌, subst, arith, ⊎_elim, Memory, byte, word, put_word, Registers, Run, Meets, Goal, Calls, calls, Tree, Stop, Do, GoTo, place, kernel_words, Fair, fair, start, while, Turn, Sym, ended, Part, Anew, Calling, run, Entry, applied, Access, Cop0}
+use Rattle.psx_flow.proofs.Kit.{◌≡◌, ℕ, suc, ◌+◌, ◌-◌, ◌*◌, ◌%◌, ◌^◌, ◌<◌, ◌≤◌, ◌⊎◌, inl, inr, [], true, false, refl, sym, ap, ◌∙◌, subst, arith, ⊎_elim, Memory, byte, word, put_word, Registers, Run, Meets, Goal, Calls, calls, Tree, Stop, Do, GoTo, place, kernel_words, Fair, fair, start, while, Turn, Sym, ended, Part, Anew, Count, counted, Calling, run, Entry, applied, Access, Cop0}
 use Rattle.std.proofs.Common.{List, ◌∷◌, eq-eqb}
 use Rattle.std.specs.Prelude.{nat_lt, nat_eq, if◌then◌else◌}
 use Rattle.std.proofs.lemmas.Bool.{lt-ltb, cases_eq}
@@ -60,7 +60,7 @@ record Head (s : Run) (from to count k : ℕ) (e : Run) : Type 0 where
   words : (a : ℕ) → a % 4 ≡ 0 → (a < to) ⊎ (to + 4 * count ≤ a) → word e.bytes a ≡ word s.bytes a
   bytes : (a : ℕ) → (a < to) ⊎ (to + 4 * count ≤ a) → byte e.bytes a ≡ byte s.bytes a
   ports : ports e.seen ≡ ports s.seen
-  within : e.passed ≤ s.passed + 5 * i
+  within : e.steps ≤ s.steps + 8 * i
 
 module _ (C : Calls) (fair : Fair C) (at : ℕ) (s : Run) (from to count : ℕ) (names : NamesBlocks s.regs from to count) where
   abbrev G : ℕ → Goal
@@ -144,12 +144,12 @@ copies_words at s from to count names = copies (calls kernel_words []) (fair ker
 
 -- ---- what a routine takes of it
 
-module _ (C : Calls) (fair : Fair C) (k : Part) (c : Registers) (z : Cop0) (m : Memory) (w : List Entry) (q : List Access) (p : ℕ) (from to count : ℕ) (names : NamesBlocks c from to count)
-    (known : (n : Memory) (x y v : ℕ) (seen : List Access) (passed : ℕ) → WordsCopied (applied m w) n from to count → ports seen ≡ ports q → passed ≤ p + (5 * count + 2) → k (record c { r8 = x; r9 = y; r12 = v }) z n [] seen passed) where
+module _ (C : Calls) (fair : Fair C) (k : Part) (c : Registers) (z : Cop0) (m : Memory) (w : List Entry) (q : List Access) (p : Count) (from to count : ℕ) (names : NamesBlocks c from to count)
+    (known : (n : Memory) (x y v : ℕ) (seen : List Access) (later : Count) → WordsCopied (applied m w) n from to count → ports seen ≡ ports q → later.steps ≤ p.steps + (8 * count + 4) → k (record c { r8 = x; r9 = y; r12 = v }) z n [] seen later) where
   goes : (to_at : ℕ) (e : Run) → Copied (run c z m w q p) from to count to_at e → (to_at ≡ c.r31) × Anew k e
   goes to_at e h =
-      let there : k (record c { r8 = e.regs.r8; r9 = e.regs.r9; r12 = e.regs.r12 }) z e.bytes [] e.seen e.passed = known e.bytes e.regs.r8 e.regs.r9 e.regs.r12 e.seen e.passed h.words h.ports h.within in
-      (h.back, record { memory = e.bytes; log = []; same = refl; sorted = tt; goes = subst (λ x. k x e.cop0 e.bytes [] e.seen e.passed) (sym h.regs) (subst (λ x. k (record c { r8 = e.regs.r8; r9 = e.regs.r9; r12 = e.regs.r12 }) x e.bytes [] e.seen e.passed) (sym h.cop0) there) })
+      let there : k (record c { r8 = e.regs.r8; r9 = e.regs.r9; r12 = e.regs.r12 }) z e.bytes [] e.seen (counted e) = known e.bytes e.regs.r8 e.regs.r9 e.regs.r12 e.seen (counted e) h.words h.ports h.within in
+      (h.back, record { memory = e.bytes; log = []; same = refl; sorted = tt; goes = subst (λ x. k x e.cop0 e.bytes [] e.seen (counted e)) (sym h.regs) (subst (λ x. k (record c { r8 = e.regs.r8; r9 = e.regs.r9; r12 = e.regs.r12 }) x e.bytes [] e.seen (counted e)) (sym h.cop0) there) })
 
   pub gives_copy : (place : ℕ) → Meets kernel_words C (tree COPY_NODES) place (λ _. ⊥) (λ b e. (b ≡ c.r31) × Anew k e) (run c z m w q p)
   gives_copy place =
@@ -158,8 +158,8 @@ module _ (C : Calls) (fair : Fair C) (k : Part) (c : Registers) (z : Cop0) (m : 
 
 -- where it stands
 pub record KnowsCopy (place : ℕ) (C : Calls) : Type 1 where
-  pub copy : (k : Part) (c : Registers) (z : Cop0) (m : Memory) (w : List Entry) (q : List Access) (p : ℕ) (from to count : ℕ) → NamesBlocks c from to count
-      → ((n : Memory) (x y v : ℕ) (seen : List Access) (passed : ℕ) → WordsCopied (applied m w) n from to count → ports seen ≡ ports q → passed ≤ p + (5 * count + 2) → k (record c { r8 = x; r9 = y; r12 = v }) z n [] seen passed) → Calling C place c.r31 k c z m w q p
+  pub copy : (k : Part) (c : Registers) (z : Cop0) (m : Memory) (w : List Entry) (q : List Access) (p : Count) (from to count : ℕ) → NamesBlocks c from to count
+      → ((n : Memory) (x y v : ℕ) (seen : List Access) (later : Count) → WordsCopied (applied m w) n from to count → ports seen ≡ ports q → later.steps ≤ p.steps + (8 * count + 4) → k (record c { r8 = x; r9 = y; r12 = v }) z n [] seen later) → Calling C place c.r31 k c z m w q p
 
 pub knows_copy : (place : ℕ) (ls : List (ℕ × Tree)) → KnowsCopy place (calls kernel_words ((place, tree COPY_NODES) ∷ ls))
 knows_copy place ls = record {

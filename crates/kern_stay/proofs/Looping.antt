@@ -51,8 +51,8 @@ looped C fair T G Inv turn k e h = while C fair (loop_test T) (loop_body T) 0 (S
 
 -- ---- the ends, with what is left of the stay
 
-pub leaves : {flat : ℕ} (stay rest : Stay) (most : ℕ) (state : KernelState) (e : Run) → Left flat stay rest most → ports e.seen ≡ [] → rest ≡ answered state e.regs.r2 → Holds state e.bytes → e.passed ≤ most → Through stay flat LEAVE e
+pub leaves : {flat : ℕ} (stay rest : Stay) (most : ℕ) (state : KernelState) (e : Run) → Left flat stay rest most → ports e.seen ≡ [] → rest ≡ answered state e.regs.r2 → Holds state e.bytes → e.steps ≤ most → Through stay flat LEAVE e
 leaves {flat} stay rest most state e l quiet is h few = through stay flat LEAVE e quiet (l.enough LEAVE e (answers most state e rest is h few))
 
-pub stops : {flat : ℕ} (stay rest : Stay) (most : ℕ) (state : KernelState) (e : Run) → Left flat stay rest most → ports e.seen ≡ [] → rest ≡ bad_pointer state e.regs.r8 → Holds state e.bytes → e.passed ≤ most → Through stay flat BAD_POINTER e
+pub stops : {flat : ℕ} (stay rest : Stay) (most : ℕ) (state : KernelState) (e : Run) → Left flat stay rest most → ports e.seen ≡ [] → rest ≡ bad_pointer state e.regs.r8 → Holds state e.bytes → e.steps ≤ most → Through stay flat BAD_POINTER e
 stops {flat} stay rest most state e l quiet is h few = through stay flat BAD_POINTER e quiet (l.enough BAD_POINTER e (refuses most state e rest is h few))

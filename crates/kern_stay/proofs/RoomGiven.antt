@@ -1,5 +1,5 @@
 -- The listing of ROOM gives the number.
-use Rattle.psx_flow.proofs.Kit.{false, ◌≡◌, ℕ, ◌+◌, ◌-◌, ◌%◌, ◌^◌, ◌<◌, ◌≤◌, inl, inr, List, refl, sym, ap, ◌∙◌, subst, arith, ⊎_elim, Memory, Registers, Cop0, Run, Access, Meets, Goal, Calls, calls, kernel_words, Fair, fair, Part, Anew, run, Entry, Sorted, ended, Calling, [], ◌∷◌, Tree}
+use Rattle.psx_flow.proofs.Kit.{false, ◌≡◌, ℕ, ◌+◌, ◌-◌, ◌%◌, ◌^◌, ◌<◌, ◌≤◌, inl, inr, List, refl, sym, ap, ◌∙◌, subst, arith, ⊎_elim, Memory, Registers, Cop0, Run, Access, Meets, Goal, Calls, calls, kernel_words, Fair, fair, Part, Anew, Count, counted, run, Entry, Sorted, ended, Calling, [], ◌∷◌, Tree}
 use Rattle.std.specs.Prelude.{nat_lt, nat_eq}
 use Rattle.std.proofs.lemmas.Bool.{cases_lt, lt-ltb}
 use Rattle.psx_cpu.specs.Words.{truth}
@@ -38,9 +38,9 @@ miss from size a small fits h = let ge = false_then _ _ h in ⊎_elim (λ l. inl
 abbrev Back : Part → ℕ → ℕ → Goal
 Back k ra b s = (b ≡ ra) × Anew k s
 
-module _ (C : Calls) (fair : Fair C) (k : Part) (at : ℕ) (c : Registers) (z : Cop0) (m : Memory) (w : List Entry) (q : List Access) (p : ℕ) (small : c.r8 < 2 ^ 32) (ok : Sorted w)
-    (known : (x y n : ℕ) → n ≤ p + 30 → k (record c { r9 = room c.r8; r10 = x; r11 = y }) z m w q n) where
-  come : (v x y n : ℕ) → room c.r8 ≡ v → n ≤ p + 30 → Back k c.r31 c.r31 (run (record c { r9 = v; r10 = x; r11 = y }) z m w q n)
+module _ (C : Calls) (fair : Fair C) (k : Part) (at : ℕ) (c : Registers) (z : Cop0) (m : Memory) (w : List Entry) (q : List Access) (p : Count) (small : c.r8 < 2 ^ 32) (ok : Sorted w)
+    (known : (x y : ℕ) (n : Count) → n.steps ≤ p.steps + 30 → k (record c { r9 = room c.r8; r10 = x; r11 = y }) z m w q n) where
+  come : (v x y : ℕ) (n : Count) → room c.r8 ≡ v → n.steps ≤ p.steps + 30 → Back k c.r31 c.r31 (run (record c { r9 = v; r10 = x; r11 = y }) z m w q n)
   come v x y n e few = (refl, record { memory = m; log = w; same = refl; sorted = ok; goes = subst (λ r. k (record c { r9 = r; r10 = x; r11 = y }) z m w q n) e (known x y n few) })
 
   abbrev of : (from size : ℕ) → ℕ
@@ -78,12 +78,12 @@ gave at s h =
 
 pub gives_room : GivesRoom (tree ROOM_NODES)
 gives_room at s small =
-    gave at s (gives (calls kernel_words []) (fair kernel_words []) (Gave s) at s.regs s.cop0 s.bytes [] s.seen s.passed small tt (λ x y n few. record { back = refl; regs = refl; cop0 = refl; bytes = refl; seen = refl; within = few }))
+    gave at s (gives (calls kernel_words []) (fair kernel_words []) (Gave s) at s.regs s.cop0 s.bytes [] s.seen (counted s) small tt (λ x y n few. record { back = refl; regs = refl; cop0 = refl; bytes = refl; seen = refl; within = few }))
 
 -- what a routine takes of it, where it stands
 pub record KnowsRoom (place : ℕ) (C : Calls) : Type 1 where
   pub fair : Fair C
-  pub room : (k : Part) (c : Registers) (z : Cop0) (m : Memory) (w : List Entry) (q : List Access) (p : ℕ) → c.r8 < 2 ^ 32 → ((x y n : ℕ) → n ≤ p + 30 → k (record c { r9 = room c.r8; r10 = x; r11 = y }) z m w q n) → Calling C place c.r31 k c z m w q p
+  pub room : (k : Part) (c : Registers) (z : Cop0) (m : Memory) (w : List Entry) (q : List Access) (p : Count) → c.r8 < 2 ^ 32 → ((x y : ℕ) (n : Count) → n.steps ≤ p.steps + 30 → k (record c { r9 = room c.r8; r10 = x; r11 = y }) z m w q n) → Calling C place c.r31 k c z m w q p
 
 pub knows_room : (place : ℕ) (ls : List (ℕ × Tree)) → KnowsRoom place (calls kernel_words ((place, tree ROOM_NODES) ∷ ls))
 knows_room place ls = record {

@@ -77,18 +77,18 @@ pub record Works (rest : Stay) (e : Run) : Type 0 where
 
 -- What is left at WORK is no end yet, so this door stands beside those of an end.
 abbrev pub AtWork : Stay → (most to : ℕ) → Goal
-AtWork rest most to e = (to ≡ WORK) × (e.passed ≤ most) × Works rest e
+AtWork rest most to e = (to ≡ WORK) × (e.steps ≤ most) × Works rest e
 
--- Behind its accesses to ports a stay is at its end, but for what it touches. A unit that it touches is worth so many nodes.
+-- Behind its accesses to ports a stay is at its end, but for what it touches. A unit that it touches is worth so many steps.
 abbrev pub Ends : (worth : ℕ) → Stay → (most to : ℕ) → Goal
-Ends worth (Return t) most to e = (e.passed ≤ most) × AtReturn t to e
-Ends worth (Halt stop memory) most to e = (e.passed ≤ most) × AtHalt stop memory to e
+Ends worth (Return t) most to e = (e.steps ≤ most) × AtReturn t to e
+Ends worth (Halt stop memory) most to e = (e.steps ≤ most) × AtHalt stop memory to e
 Ends worth (Touch bytes next) most to e = Ends worth next (most + worth * bytes) to e
 Ends worth _ most to e = ⊥
 
--- A unit is worth 32 nodes, so 128 steps, where no port is accessed. A listing that accesses ports has its bound alone.
+-- A unit is worth 128 steps where no port is accessed. A listing that accesses ports has its bound alone.
 abbrev pub worth_of : List Access → ℕ
-worth_of [] = 32
+worth_of [] = 128
 worth_of (x ∷ q) = 0
 
 -- a stay comes through a door
@@ -112,23 +112,23 @@ abbrev pub called_with : Registers → Registers → Registers
 called_with a d = record d { r4 = a.r4; r5 = a.r5; r6 = a.r6; r7 = a.r7; r29 = a.r29 }
 
 abbrev pub begun : Registers → Cop0 → Memory → Run
-begun c z m = record { regs = c; cop0 = z; bytes = m; seen = []; passed = 0 }
+begun c z m = record { regs = c; cop0 = z; bytes = m; seen = []; passed = 0; steps = 0 }
 
--- at most 8,192 steps, so 2,048 nodes, and 128 more for each unit that is touched
-abbrev pub most_nodes : ℕ
-most_nodes = 2048
+-- the steps of a call, with 128 more for each unit that is touched
+abbrev pub most_steps : ℕ
+most_steps = 8192
 
--- a call of the heap: at most 32,768 steps, so 8,192 nodes
-abbrev pub most_heap_nodes : ℕ
-most_heap_nodes = 8192
+-- those of a call of the heap
+abbrev pub most_heap_steps : ℕ
+most_heap_steps = 32768
 
--- A listing at an address serves a call, within so many nodes. It calls listings of its own range, each of which calls those behind it, and the four accesses to user memory.
+-- A listing at an address serves a call, within so many steps. It calls listings of its own range, each of which calls those behind it, and the four accesses to user memory.
 abbrev pub Serves : (own : List (ℕ × Tree)) → (most : ℕ) → (KernelState → Stay) → ℕ → Tree → Type 0
 Serves own most stay at T =
     (s : KernelState) (d : Registers) (z : Cop0) (m : Memory) → Arrives s m
     → Meets kernel_words (calls kernel_words (own ++ tested_there)) T at (λ _. ⊥) (λ to e. Through (stay s) most to e) (begun (called_with (registers_of s) d) z m)
 
--- a call is served, within so many nodes, by a listing that stands at an address, and so do those of its own range that it calls
+-- a call is served, within so many steps, by a listing that stands at an address, and so do those of its own range that it calls
 pub record IsServed (m : Memory) (most : ℕ) (stay : KernelState → Stay) (at : ℕ) : Type 0 where
   pub there : at ≡ 0 → ⊥
   pub own : List (ℕ × Tree)

@@ -1,4 +1,4 @@
--- Routines with a loop that accesses ports. The loop is a listing of its own, which jumps to itself: each turn pays by its accesses for the nodes that it passes.
+-- Routines with a loop that accesses ports. The loop is a listing of its own, which jumps to itself: each turn pays by its accesses for the steps that it makes.
 use Rattle.std.specs.Prelude.{◌≡◌, ℕ, zero, suc, ◌+◌, ◌*◌, ◌≤◌, cond, nat_eq, List, [], ◌∷◌, ◌++◌}
 use Rattle.psx_base.specs.Memory.{Memory}
 use Rattle.psx_base.specs.Registers.{Registers}
@@ -40,18 +40,18 @@ pub record Passes (loop : ℕ) (again : List Access → Stay → Goal) (stay : S
   pub follows : Follows stay told
   pub ends : cond (nat_eq to loop) (again told (after stay told) e) (Ends 0 (after stay told) most to e)
 
--- From the loop's address the stay is made in less than so many turns. A turn passes so many nodes, and where it isn't the last it has earned them: a unit is worth 32 nodes. No turn passes more than `most`.
+-- From the loop's address the stay is made in less than so many turns. A turn makes so many steps, and where it isn't the last it has earned them: a unit is worth 128 steps. No turn makes more than `most`.
 abbrev pub Repeats : (own : List (ℕ × Tree)) → (most loop : ℕ) → Tree → (turns : ℕ) → Stay → Goal
 Repeats own most loop T zero stay e = ⊥
 Repeats own most loop T (suc n) stay e =
     (few : ℕ) × (few ≤ most)
-    × Meets kernel_words (calls kernel_words (own ++ tested_there)) T loop (λ _. ⊥) (λ to f. Passes loop (λ told rest g. (g.passed ≤ few) × (few ≤ 32 * earned stay told) × Repeats own most loop T n rest g) stay few to f) (begun e.regs e.cop0 e.bytes)
+    × Meets kernel_words (calls kernel_words (own ++ tested_there)) T loop (λ _. ⊥) (λ to f. Passes loop (λ told rest g. (g.steps ≤ few) × (few ≤ 128 * earned stay told) × Repeats own most loop T n rest g) stay few to f) (begun e.regs e.cop0 e.bytes)
 
 -- a listing at an address serves a call, with a loop that it jumps to
 abbrev pub ServesBy : (own : List (ℕ × Tree)) → (most : ℕ) → (KernelState → Stay) → ℕ → Tree → ℕ → Tree → Type 0
 ServesBy own most stay at T loop L =
     (s : KernelState) (d : Registers) (z : Cop0) (m : Memory) → Arrives s m
-    → Meets kernel_words (calls kernel_words (own ++ tested_there)) T at (λ _. ⊥) (λ to e. Passes loop (λ told rest g. (g.passed ≤ most) × ((n : ℕ) × Repeats own most loop L n rest g)) (stay s) most to e) (begun (called_with (registers_of s) d) z m)
+    → Meets kernel_words (calls kernel_words (own ++ tested_there)) T at (λ _. ⊥) (λ to e. Passes loop (λ told rest g. (g.steps ≤ most) × ((n : ℕ) × Repeats own most loop L n rest g)) (stay s) most to e) (begun (called_with (registers_of s) d) z m)
 
 -- a call is served by two listings that stand at their addresses, and so do those of its own range that they call
 pub record IsServedBy (m : Memory) (most : ℕ) (stay : KernelState → Stay) (at : ℕ) : Type 0 where

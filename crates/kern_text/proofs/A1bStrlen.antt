@@ -10,7 +10,7 @@ use Rattle.abs_kernel.specs.UserBytes.{reads_byte, bad_pointer, following, longe
 use Rattle.abs_kernel.specs.Strlen.{count_bytes, strlen}
 use Rattle.kern_stay.specs.Room.{room}
 use Rattle.kern_stay.specs.Shared.{tree, tested_there}
-use Rattle.kern_stay.specs.Doors.{Holds, Through, Serves, called_with, begun, most_nodes}
+use Rattle.kern_stay.specs.Doors.{Holds, Through, Serves, called_with, begun, most_steps}
 use Rattle.kern_stay.proofs.RoomGiven.{KnowsRoom, knows_room}
 use Rattle.kern_stay.proofs.RoomLeft.{Span, span_some, room_few}
 use Rattle.kern_stay.proofs.Ending.{through, answers, Left, left_all, left_is, left_read, left_unread, user_byte}
@@ -31,8 +31,8 @@ record Head (stay : Stay) (s : KernelState) (m : Memory) (a n stop k : ℕ) (e :
   count : ℕ
   counted : e.regs.r8 ≡ a + count
   most : ℕ
-  left : Left most_nodes stay (count_bytes fuel s e.regs.r8 count) most
-  within : e.passed + 10 ≤ most
+  left : Left most_steps stay (count_bytes fuel s e.regs.r8 count) most
+  within : e.steps + 20 ≤ most
   bytes : e.bytes ≡ m
   quiet : ports e.seen ≡ []
   r4 : e.regs.r4 ≡ a
@@ -41,7 +41,7 @@ record Head (stay : Stay) (s : KernelState) (m : Memory) (a n stop k : ℕ) (e :
 
 module _ (C : Calls) (know : KnowsRoom ROOM C) (stay : Stay) (s : KernelState) (m : Memory) (holds : Holds s m) (a n stop : ℕ) (span : Span a n stop 1) where
   abbrev G : ℕ → Goal
-  G to e = Through stay most_nodes to e
+  G to e = Through stay most_steps to e
 
   abbrev Inv : ℕ → Goal
   Inv k e = Head stay s m a n stop k e
@@ -56,7 +56,7 @@ module _ (C : Calls) (know : KnowsRoom ROOM C) (stay : Stay) (s : KernelState) (
         leave = λ eq.
             let b = done_bad a n stop 1 k x span h.cursor (eq ∙ h.r11) (λ z. absurd (omega (arith, z))) in
             let l = left_unread stay s x next h.most b.user (left_is stay _ _ h.most (count_more h.fuel s x h.count (omega (arith, b.some, h.some))) h.left) in
-            stops stay (bad_pointer s x) (h.most + 32) s _ l h.quiet refl there (omega arith);
+            stops stay (bad_pointer s x) (h.most + 128) s _ l h.quiet refl there (omega arith);
         again = λ ne.
             let g = coming a n stop 1 k x span h.cursor (λ q. ne (q ∙ sym h.r11)) in
             let v : ℕ = byte s.memory (place x) in
@@ -64,11 +64,11 @@ module _ (C : Calls) (know : KnowsRoom ROOM C) (stay : Stay) (s : KernelState) (
             let l = left_read stay s x next h.most g.user (left_is stay _ _ h.most (count_more h.fuel s x h.count (omega (arith, g.some, h.some))) h.left) in
             rw (g.here, g.sort) (
               λ z.
-                  let lf = left_is stay _ _ (h.most + 32) (ap (λ b. if b then answered s h.count else count_bytes (h.fuel - 1) s (following x) (h.count + 1)) (eq-eqb v 0 (sym is ∙ z))) l in
-                  leaves stay (answered s h.count) (h.most + 32) s _ lf h.quiet (ap (answered s) (omega (arith, g.back, h.counted, h.r4, span.within, h.cursor.high))) there (omega arith),
+                  let lf = left_is stay _ _ (h.most + 128) (ap (λ b. if b then answered s h.count else count_bytes (h.fuel - 1) s (following x) (h.count + 1)) (eq-eqb v 0 (sym is ∙ z))) l in
+                  leaves stay (answered s h.count) (h.most + 128) s _ lf h.quiet (ap (answered s) (omega (arith, g.back, h.counted, h.r4, span.within, h.cursor.high))) there (omega arith),
               λ nz.
-                  let ln = left_is stay _ _ (h.most + 32) (ap (λ b. if b then answered s h.count else count_bytes (h.fuel - 1) s (following x) (h.count + 1)) (ne_eqb v 0 (λ q. nz (is ∙ q)))) l in
-                  (k - 1, g.less, record { fuel = h.fuel - 1; some = omega (arith, h.some); count = h.count + 1; counted = omega (arith, g.next.count, h.cursor.count, g.some, h.counted); most = h.most + 32; left = ln; within = omega arith; bytes = h.bytes; quiet = h.quiet; r4 = h.r4; r11 = h.r11; cursor = g.next }),
+                  let ln = left_is stay _ _ (h.most + 128) (ap (λ b. if b then answered s h.count else count_bytes (h.fuel - 1) s (following x) (h.count + 1)) (ne_eqb v 0 (λ q. nz (is ∙ q)))) l in
+                  (k - 1, g.less, record { fuel = h.fuel - 1; some = omega (arith, h.some); count = h.count + 1; counted = omega (arith, g.next.count, h.cursor.count, g.some, h.counted); most = h.most + 128; left = ln; within = omega arith; bytes = h.bytes; quiet = h.quiet; r4 = h.r4; r11 = h.r11; cursor = g.next }),
             );
       }
 
@@ -79,7 +79,7 @@ room_short : (a : ℕ) → room a + 1 ≤ longest
 unfolding longest
 room_short a = let h = room_few a in omega (arith, h)
 
-pub serves : Serves own most_nodes strlen STRLEN (tree NODES)
+pub serves : Serves own most_steps strlen STRLEN (tree NODES)
 serves s d z m h =
     let C : Calls = calls kernel_words (own ++ tested_there) in
     let know : KnowsRoom ROOM C = knows_room ROOM tested_there in
@@ -88,11 +88,11 @@ serves s d z m h =
     let n : ℕ = room a + 1 in
     let sp = span_some a n 1 small (λ e. absurd (omega (arith, e))) (omega arith) in
     let few : n ≤ longest = room_short a in
-    start C know.fair (tree NODES) STRLEN (λ _. ⊥) (λ to e. Through (strlen s) most_nodes to e) (begun (called_with (registers_of s) d) z m) (
-      λ none. through (strlen s) most_nodes _ _ refl (answers most_nodes s _ (strlen s) (null a (answered s 0) (count_bytes longest s a 0) none) h.holds (omega arith)),
+    start C know.fair (tree NODES) STRLEN (λ _. ⊥) (λ to e. Through (strlen s) most_steps to e) (begun (called_with (registers_of s) d) z m) (
+      λ none. through (strlen s) most_steps _ _ refl (answers most_steps s _ (strlen s) (null a (answered s 0) (count_bytes longest s a 0) none) h.holds (omega arith)),
       λ some.
-          let l : Left most_nodes (strlen s) (count_bytes longest s a 0) most_nodes = left_is (strlen s) (strlen s) (count_bytes longest s a 0) most_nodes (not_null a (answered s 0) (count_bytes longest s a 0) some) (left_all (strlen s)) in
+          let l : Left most_steps (strlen s) (count_bytes longest s a 0) most_steps = left_is (strlen s) (strlen s) (count_bytes longest s a 0) most_steps (not_null a (answered s 0) (count_bytes longest s a 0) some) (left_all (strlen s)) in
           know.room _ _ _ _ _ _ _ small (λ x y p up.
           loops C know (strlen s) s m h.holds a n ((a + room a) % 2 ^ 32) sp _
-          record { fuel = longest; some = few; count = 0; counted = omega arith; most = most_nodes; left = l; within = omega arith; bytes = refl; quiet = refl; r4 = refl; r11 = refl; cursor = record { low = omega arith; high = sp.low; count = refl } }),
+          record { fuel = longest; some = few; count = 0; counted = omega arith; most = most_steps; left = l; within = omega arith; bytes = refl; quiet = refl; r4 = refl; r11 = refl; cursor = record { low = omega arith; high = sp.low; count = refl } }),
     )
