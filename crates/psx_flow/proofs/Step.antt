@@ -19,7 +19,7 @@ use Rattle.psx_cpu.specs.Step.{Move, Goes, Reads, Writes, after, executed, step}
 use Rattle.psx_cpu.proofs.KernelSide.{step_executes}
 use Rattle.psx_flow.specs.Well.{enters_or_leaves}
 use Rattle.psx_flow.specs.Run.{Run, Access, accessed}
-use Rattle.psx_flow.specs.Plain.{Board, went, seen_by, onward, plain_step, kernel_core}
+use Rattle.psx_flow.specs.Plain.{Execution, went, seen_by, onward, plain_step, kernel_core}
 use Rattle.psx_flow.specs.Reaches.{keeps_word, Lies, Stands, Keeps}
 
 -- ---- the word at an address
@@ -74,8 +74,8 @@ pub core_steps : (x : State) (bus : Bus) (i : Ins) → x.context.pc % 4 ≡ 0 �
     → went (step (kernel_core x) bus) ≡ Some (kernel_core (effect i x bus))
 core_steps x bus i even off is g none = ap went (step_executes x.context x.cop0 x.bytes bus i even off is none) ∙ executes (kernel_core x) bus i g
 
--- a board in a state, with the accesses so far, at a count
-abbrev pub standing : State → List Access → ℕ → Board
+-- an execution in a state, with the accesses so far, at a count
+abbrev pub standing : State → List Access → ℕ → Execution
 standing x q c = record { core = kernel_core x; seen = q; clock = c }
 
 pub step_is : (bus : ℕ → Bus) (x : State) (q : List Access) (c : ℕ) (i : Ins) → x.context.pc % 4 ≡ 0 → x.cop0.sr % 2 ≡ 0 → instruction_of (read_word x.bytes x.context.pc) ≡ Some i → enters_or_leaves i ≡ false → trap_of i x.context ≡ None
