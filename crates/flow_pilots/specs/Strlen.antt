@@ -7,7 +7,7 @@ use Rattle.flow_pilots.specs.declared.places.TheConstants.{LEAVE, BAD_POINTER, S
 use Rattle.psx_flow.specs.Tree.{Tree}
 use Rattle.psx_flow.specs.Run.{Run, Access, Load}
 use Rattle.psx_flow.specs.Kernel.{kernel_words}
-use Rattle.psx_flow.specs.Plain.{board}
+use Rattle.psx_flow.specs.Plain.{executing}
 use Rattle.psx_flow.specs.Reaches.{IsPlaced, ArePlaced, Reaches}
 use Rattle.flow_pilots.specs.Accesses.{accesses}
 
@@ -55,4 +55,4 @@ Strlen m s q p a e = cond (nat_eq a LEAVE) (Answers m s q p e) (cond (nat_eq a B
 abbrev pub Serves : Tree → Type 0
 Serves T =
     (bus : ℕ → Bus) → ((n : ℕ) → (bus n).value < 2 ^ 32) → (c : ℕ) (s : Run) → s.regs.r4 < 2 ^ 32 → s.cop0.sr % 2 ≡ 0 → IsPlaced kernel_words s.bytes STRLEN T → ArePlaced kernel_words s.bytes accesses
-    → Reaches kernel_words bus s.bytes (board s STRLEN c) c s (λ e b. Strlen s.bytes s.regs.r4 s.seen s.passed b e)
+    → Reaches kernel_words bus s.bytes (executing s STRLEN c) c s (λ e b. Strlen s.bytes s.regs.r4 s.seen s.passed b e)

@@ -6,7 +6,7 @@ use Rattle.flow_pilots.specs.declared.places.TheConstants.{LEAVE, DISABLE}
 use Rattle.psx_flow.specs.Tree.{Tree}
 use Rattle.psx_flow.specs.Run.{Run}
 use Rattle.psx_flow.specs.Kernel.{kernel_words}
-use Rattle.psx_flow.specs.Plain.{board}
+use Rattle.psx_flow.specs.Plain.{executing}
 use Rattle.psx_flow.specs.Reaches.{IsPlaced, Reaches}
 
 -- the second word of an entry
@@ -20,4 +20,4 @@ pub record Changes (n : ℕ) (s e : Run) : Type 0 where
 abbrev pub Serves : Tree → Type 0
 Serves T =
     (bus : ℕ → Bus) → ((n : ℕ) → (bus n).value < 2 ^ 32) → (c : ℕ) (s : Run) → s.cop0.sr % 2 ≡ 0 → IsPlaced kernel_words s.bytes DISABLE T
-    → Reaches kernel_words bus s.bytes (board s DISABLE c) c s (λ e to. (to ≡ LEAVE) × Changes s.regs.r4 s e)
+    → Reaches kernel_words bus s.bytes (executing s DISABLE c) c s (λ e to. (to ≡ LEAVE) × Changes s.regs.r4 s e)
