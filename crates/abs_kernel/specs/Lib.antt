@@ -24,3 +24,4 @@ pub mod PlayedLaws
 pub mod ProgramLaws
 pub mod UserLaws
 pub mod Equations
+pub mod Work

@@ -55,4 +55,4 @@ Strlen m s q p a e = cond (nat_eq a LEAVE) (Answers m s q p e) (cond (nat_eq a B
 abbrev pub Serves : Tree → Type 0
 Serves T =
     (bus : ℕ → Bus) → ((n : ℕ) → (bus n).value < 2 ^ 32) → (c : ℕ) (s : Run) → s.regs.r4 < 2 ^ 32 → s.cop0.sr % 2 ≡ 0 → IsPlaced kernel_words s.bytes STRLEN T → ArePlaced kernel_words s.bytes accesses
-    → Reaches kernel_words bus s.bytes (board s STRLEN c) c s.passed (λ e b. Strlen s.bytes s.regs.r4 s.seen s.passed b e)
+    → Reaches kernel_words bus s.bytes (board s STRLEN c) c s (λ e b. Strlen s.bytes s.regs.r4 s.seen s.passed b e)

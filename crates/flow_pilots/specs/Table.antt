@@ -20,4 +20,4 @@ pub record Changes (n : ℕ) (s e : Run) : Type 0 where
 abbrev pub Serves : Tree → Type 0
 Serves T =
     (bus : ℕ → Bus) → ((n : ℕ) → (bus n).value < 2 ^ 32) → (c : ℕ) (s : Run) → s.cop0.sr % 2 ≡ 0 → IsPlaced kernel_words s.bytes DISABLE T
-    → Reaches kernel_words bus s.bytes (board s DISABLE c) c s.passed (λ e to. (to ≡ LEAVE) × Changes s.regs.r4 s e)
+    → Reaches kernel_words bus s.bytes (board s DISABLE c) c s (λ e to. (to ≡ LEAVE) × Changes s.regs.r4 s e)

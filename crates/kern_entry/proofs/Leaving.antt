@@ -22,7 +22,7 @@ pub record Resumed (c : Registers) (pc : ℕ) (on : Bool) (m : Memory) (p : List
   pub rest : List Access
   pub seen : e.seen ≡ Load 4 0xEB88 last ∷ rest
   pub ports : ports rest ≡ p
-  pub within : e.passed ≤ most
+  pub within : e.steps ≤ most
 
 sr_is_kept : (on : Bool) → sr_kept (saved_sr_of on) ≡ saved_sr_of on
 sr_is_kept true = refl

@@ -1,5 +1,5 @@
 -- The stops, and the routines.
-use Rattle.psx_flow.proofs.Kit.{◌≡◌, ℕ, suc, ◌+◌, ◌*◌, ◌%◌, ◌^◌, ◌<◌, ◌≤◌, true, false, refl, sym, ap, ◌∙◌, subst, arith, Memory, word, Registers, Cop0, Run, Access, PortWrite, Meets, calls, kernel_words, fair, start, put_word, Sym, ended}
+use Rattle.psx_flow.proofs.Kit.{◌≡◌, ℕ, suc, ◌+◌, ◌*◌, ◌%◌, ◌^◌, ◌<◌, ◌≤◌, true, false, refl, sym, ap, ◌∙◌, subst, arith, Memory, word, Registers, Cop0, Run, Access, PortWrite, Meets, calls, kernel_words, fair, start, put_word, Sym, counted, ended}
 use Rattle.std.proofs.Common.{Bool, zero, List, [], ◌∷◌, ◌/◌}
 use Rattle.std.specs.Prelude.{if◌then◌else◌, bit_and}
 use Rattle.psx_base.specs.declared.ports.TheConstants.{CONSOLE_DATA, HALT, HALT_A, HALT_B, HALT_C}
@@ -8,9 +8,9 @@ use Rattle.psx_flow.specs.Told.{ports}
 use Rattle.psx_flow.proofs.Log.{KernelWord}
 use Rattle.kern_layout.specs.Fields.{Block}
 use Rattle.kern_layout.specs.Contexts.{saved, saved_sr_of}
-use Rattle.kern_entry.specs.declared.places.TheConstants.{UNSERVED, EXCEPTION, EXIT, DONE, BACK, PUTCHAR, SYSCALLS, LEAVE, BEHIND, BAD_POINTER}
+use Rattle.kern_entry.specs.declared.places.TheConstants.{UNSERVED, EXCEPTION, EXIT, DONE, BACK, PUTCHAR, SYSCALLS, LEAVE, BEHIND, BAD_POINTER, BAD_THREAD, DEEP}
 use Rattle.kern_entry.specs.declared.calls.TheConstants.{EXIT_NODES, PUTCHAR_NODES}
-use Rattle.kern_entry.specs.declared.stops.TheConstants.{UNSERVED_NODES, EXCEPTION_NODES, DONE_NODES, BACK_NODES, BAD_POINTER_NODES}
+use Rattle.kern_entry.specs.declared.stops.TheConstants.{UNSERVED_NODES, EXCEPTION_NODES, DONE_NODES, BACK_NODES, BAD_POINTER_NODES, BAD_THREAD_NODES, DEEP_NODES}
 use Rattle.kern_entry.specs.declared.sys.TheConstants.{SYSCALLS_NODES}
 use Rattle.kern_entry.specs.EntryWords.{tree}
 use Rattle.kern_entry.specs.Made.{Spared}
@@ -23,7 +23,7 @@ pub record Stops (code : ℕ) (writes : List Access) (m : Memory) (most : ℕ) (
   pub seen : e.seen ≡ PortWrite HALT code ∷ rest
   pub told : ports rest ≡ writes
   pub spared : Spared m e.bytes
-  pub within : e.passed ≤ most
+  pub within : e.steps ≤ most
 
 -- a routine comes with its answer to LEAVE
 pub record Answers (value : ℕ) (c : Registers) (pc : ℕ) (on : Bool) (m : Memory) (p : List Access) (most to : ℕ) (e : Run) : Type 0 where
@@ -52,7 +52,7 @@ module _ (c : Registers) (z : Cop0) (on : Bool) (m : Memory) (p : List Access) (
   done_meets =
       let within = h.holds.within in
       start (calls kernel_words []) (fair kernel_words []) (tree DONE_NODES) DONE (λ _. ⊥) (λ to e. Exits c.r2 c z.epc on m p more to e) s
-      (record { to_is = refl; holds = holds_on c z.epc on m p most more s h.holds _ _ _ _ refl (omega arith); value_is = h.r2 })
+      (record { to_is = refl; holds = holds_on c z.epc on m p most more s h.holds _ _ _ _ _ refl (omega arith); value_is = h.r2 })
 
   pub back_meets : Meets kernel_words (calls kernel_words []) (tree BACK_NODES) BACK (λ e. Stops 7 (PortWrite HALT_A c.r31 ∷ p) m more e) (λ _ _. ⊥) s
   back_meets =
@@ -76,6 +76,12 @@ module _ (c : Registers) (z : Cop0) (on : Bool) (m : Memory) (p : List Access) (
       start (calls kernel_words []) (fair kernel_words []) (tree EXCEPTION_NODES) EXCEPTION (λ e. Stops 2 (PortWrite HALT_B z.epc ∷ PortWrite HALT_A code ∷ p) m more e) (λ _ _. ⊥) s
       (λ line. record { rest = _; seen = refl; told = (λ i. PortWrite HALT_B ((h.cop0 i).epc) ∷ PortWrite HALT_A (coded line i) ∷ h.holds.ports i); spared = h.holds.spared; within = omega arith })
 
+-- a frame too many
+pub deep_meets : (m : Memory) (p : List Access) (v more : ℕ) (s : Run) → Spared m s.bytes → ports s.seen ≡ p → s.regs.r31 ≡ v → s.steps + 10 ≤ more → Meets kernel_words (calls kernel_words []) (tree DEEP_NODES) DEEP (λ e. Stops 6 (PortWrite HALT_A v ∷ p) m more e) (λ _ _. ⊥) s
+deep_meets m p v more s spared told e few =
+    start (calls kernel_words []) (fair kernel_words []) (tree DEEP_NODES) DEEP (λ e. Stops 6 (PortWrite HALT_A v ∷ p) m more e) (λ _ _. ⊥) s
+    (record { rest = _; seen = refl; told = (λ i. PortWrite HALT_A (e i) ∷ told i); spared = spared; within = omega arith })
+
 -- from a context in the work area
 module _ (c : Registers) (pc : ℕ) (on : Bool) (m : Memory) (p : List Access) (most more : ℕ) (s : Run) (h : Holds c pc on m p most s) (few : most + 30 ≤ more) where
   pub putchar_meets : s.regs.r4 ≡ c.r4 → Meets kernel_words (calls kernel_words []) (tree PUTCHAR_NODES) PUTCHAR (λ _. ⊥) (λ to e. Answers (c.r4 % 2 ^ 8) c pc on m (PortWrite CONSOLE_DATA c.r4 ∷ p) more to e) s
@@ -94,6 +100,14 @@ module _ (c : Registers) (pc : ℕ) (on : Bool) (m : Memory) (p : List Access) (
       let within = h.within in
       let r31 = area_r31 s.bytes c pc on h.area in
       start (calls kernel_words []) (fair kernel_words []) (tree BAD_POINTER_NODES) BAD_POINTER (λ e. Stops 4 (PortWrite HALT_B c.r31 ∷ PortWrite HALT_A v ∷ p) m more e) (λ _ _. ⊥) s
+      (record { rest = _; seen = refl; told = (λ i. PortWrite HALT_B (r31 i) ∷ PortWrite HALT_A (r8 i) ∷ h.ports i); spared = h.spared; within = omega arith })
+
+  -- a handle that names no thread
+  pub bad_thread_meets : (v : ℕ) → s.regs.r8 ≡ v → Meets kernel_words (calls kernel_words []) (tree BAD_THREAD_NODES) BAD_THREAD (λ e. Stops 5 (PortWrite HALT_B c.r31 ∷ PortWrite HALT_A v ∷ p) m more e) (λ _ _. ⊥) s
+  bad_thread_meets v r8 =
+      let within = h.within in
+      let r31 = area_r31 s.bytes c pc on h.area in
+      start (calls kernel_words []) (fair kernel_words []) (tree BAD_THREAD_NODES) BAD_THREAD (λ e. Stops 5 (PortWrite HALT_B c.r31 ∷ PortWrite HALT_A v ∷ p) m more e) (λ _ _. ⊥) s
       (record { rest = _; seen = refl; told = (λ i. PortWrite HALT_B (r31 i) ∷ PortWrite HALT_A (r8 i) ∷ h.ports i); spared = h.spared; within = omega arith })
 
 -- ---- the SYSCALLs, by r4
@@ -124,7 +138,7 @@ module _ (c : Registers) (z : Cop0) (on : Bool) (m : Memory) (p : List Access) (
   SysMeets n = Meets kernel_words (calls kernel_words []) (tree SYSCALLS_NODES) SYSCALLS (λ e. SysStops n z.epc m p more e) (λ to e. SysGoes n c z.epc on m p more to e) s
 
   abbrev SysAsks : ℕ → Type 0
-  SysAsks n = Sym (calls kernel_words []) (tree SYSCALLS_NODES) SYSCALLS (ended (λ e. SysStops n z.epc m p more e)) (λ to e. SysGoes n c z.epc on m p more to e) s.regs s.cop0 s.bytes [] s.seen s.passed
+  SysAsks n = Sym (calls kernel_words []) (tree SYSCALLS_NODES) SYSCALLS (ended (λ e. SysStops n z.epc m p more e)) (λ to e. SysGoes n c z.epc on m p more to e) s.regs s.cop0 s.bytes [] s.seen (counted s)
 
   sys_start : (n : ℕ) → SysAsks n → SysMeets n
   sys_start n = start (calls kernel_words []) (fair kernel_words []) (tree SYSCALLS_NODES) SYSCALLS (λ e. SysStops n z.epc m p more e) (λ to e. SysGoes n c z.epc on m p more to e) s
@@ -139,7 +153,7 @@ module _ (c : Registers) (z : Cop0) (on : Bool) (m : Memory) (p : List Access) (
   pub sys_meets : (n : ℕ) → s.regs.r4 ≡ n → SysMeets n
   sys_meets zero e =
       let within = h.holds.within in
-      sys_start zero (λ _. (refl, holds_on c z.epc on m p most more s h.holds _ _ _ _ refl (omega arith)), λ ne. absurd (ne e))
+      sys_start zero (λ _. (refl, holds_on c z.epc on m p most more s h.holds _ _ _ _ _ refl (omega arith)), λ ne. absurd (ne e))
   sys_meets (suc zero) e =
       let within = h.holds.within in
       let x : ℕ = bit_and (word s.bytes 0xEB94 / 2 ^ 2) 1 in

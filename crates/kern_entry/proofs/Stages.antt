@@ -17,16 +17,16 @@ use Rattle.psx_flow.specs.Meets.{Goal, Meets, calls}
 use Rattle.psx_flow.specs.Reaches.{IsPlaced, Keeps}
 use Rattle.kern_layout.specs.Stands.{user_sr}
 use Rattle.abs_kernel.specs.Stay.{Stay, Return, Halt}
-use Rattle.kern_entry.specs.declared.places.TheConstants.{LEAVE, BEHIND, RESUME, WORK, EXIT, DONE, BACK, UNSERVED, EXCEPTION, PUTCHAR, BAD_POINTER}
+use Rattle.kern_entry.specs.declared.places.TheConstants.{LEAVE, BEHIND, RESUME, WORK, EXIT, DONE, BACK, UNSERVED, EXCEPTION, PUTCHAR, BAD_POINTER, BAD_THREAD, DEEP}
 use Rattle.kern_entry.specs.declared.calls.TheConstants.{EXIT_NODES, PUTCHAR_NODES}
-use Rattle.kern_entry.specs.declared.stops.TheConstants.{UNSERVED_NODES, EXCEPTION_NODES, DONE_NODES, BACK_NODES, BAD_POINTER_NODES}
+use Rattle.kern_entry.specs.declared.stops.TheConstants.{UNSERVED_NODES, EXCEPTION_NODES, DONE_NODES, BACK_NODES, BAD_POINTER_NODES, BAD_THREAD_NODES, DEEP_NODES}
 use Rattle.kern_entry.specs.declared.leave.TheConstants.{LEAVE_NODES, BEHIND_NODES, RESUME_NODES, WORK_NODES, RETURN}
 use Rattle.kern_entry.specs.EntryWords.{tree}
 use Rattle.kern_entry.specs.Within.{Aim, Within}
 use Rattle.kern_entry.specs.Made.{after, Follows, given, IsBack, Leaving, Returned, Halted, Spared, Made}
 use Rattle.kern_entry.proofs.Walk.{walk_placed, within_backs, within_here}
 use Rattle.kern_entry.proofs.WorkArea.{Holds, Entered}
-use Rattle.kern_entry.proofs.Routines.{Stops, Answers, Exits, exit_meets, done_meets, back_meets, unserved_meets, exception_meets, putchar_meets, bad_pointer_meets}
+use Rattle.kern_entry.proofs.Routines.{Stops, Answers, Exits, exit_meets, done_meets, back_meets, unserved_meets, exception_meets, putchar_meets, bad_pointer_meets, bad_thread_meets, deep_meets}
 use Rattle.kern_entry.proofs.Leaving.{Resumed, leave_meets, behind_meets, work_meets, resume_meets}
 use Rattle.kern_entry.proofs.Returning.{back_to, Back, return_from}
 use Rattle.kern_stay.proofs.Telling.{after_ports, follows_ports, given_ports}
@@ -35,15 +35,15 @@ use Rattle.kern_entry.proofs.Placed.{AllPlaced}
 module _ (m : Memory) (Z : Aim) where
   -- an aim is met from a state at an address, in the steps that are left
   abbrev pub Shown : Run → ℕ → Type 0
-  Shown s at = (n : ℕ) → 802 ≤ n + 4 * s.passed → Within Z n (kernel_core (state_at s at)) s.seen
+  Shown s at = (n : ℕ) → 202 ≤ n + s.steps → Within Z n (kernel_core (state_at s at)) s.seen
 
   abbrev pub Keeping : Run → Type 0
   Keeping s = Keeps kernel_words m s
 
-  pub walks : (T : Tree) (at : ℕ) (K : Goal) (G : ℕ → Goal) (s : Run) → IsPlaced kernel_words m at T → Keeping s → ((e : Run) → K e → e.passed ≤ 200) → ((a : ℕ) (e : Run) → G a e → e.passed ≤ 200)
+  pub walks : (T : Tree) (at : ℕ) (K : Goal) (G : ℕ → Goal) (s : Run) → IsPlaced kernel_words m at T → Keeping s → ((e : Run) → K e → e.steps ≤ 200) → ((a : ℕ) (e : Run) → G a e → e.steps ≤ 200)
       → ((e : Run) → Keeping e → K e → Shown e (at + 4 * size T)) → ((a : ℕ) (e : Run) → Keeping e → G a e → Shown e a) → Meets kernel_words (calls kernel_words []) T at K G s → Shown s at
   walks T at K G s p ks low high here jump h =
-      walk_placed kernel_words m (Within Z) (within_backs Z) 200 [] tt T at K G 802 s (omega arith) p ks (record { low = low; low_jump = high; here = here; jump = jump }) h
+      walk_placed kernel_words m (Within Z) (within_backs Z) 200 [] tt T at K G 202 s (omega arith) p ks (record { low = low; low_jump = high; here = here; jump = jump }) h
 
 module _ (stay : Stay) where
   -- behind these accesses to ports the stay returns with a context
@@ -103,13 +103,13 @@ module _ (m : Memory) (all : AllPlaced m) (stay : Stay) (Z : Aim) (aimed : (k : 
 
   -- ---- back to the program
 
-  left_one : (n passed : ℕ) → passed ≤ 200 → 802 ≤ n + 4 * passed → suc (n - 1) ≡ n
-  left_one n passed h few = omega arith
+  left_one : (n made : ℕ) → made ≤ 200 → 202 ≤ n + made → suc (n - 1) ≡ n
+  left_one n made h few = omega arith
 
   module _ (c : Registers) (pc : ℕ) (on : Bool) (p : List Access) where
     resumed_shown : (e : Run) → Keep e → Resumed c pc on m p 200 e → Returns stay c pc on p → Show e RETURN
     resumed_shown e ke k r n few =
-        subst (λ j. Within Z j (kernel_core (state_at e RETURN)) e.seen) (left_one n e.passed k.within few)
+        subst (λ j. Within Z j (kernel_core (state_at e RETURN)) e.seen) (left_one n e.steps k.within few)
         (return_from Z c pc on m p 200 (n - 1) m e all.return ke k (λ x b. aimed x e.seen (made_back x c pc on p k.rest e.seen k.last k.seen k.ports r b)))
 
     pub resume_shown : (s : Run) → Keep s → Holds c pc on m p 150 s → Returns stay c pc on p → Show s RESUME
@@ -124,7 +124,7 @@ module _ (m : Memory) (all : AllPlaced m) (stay : Stay) (Z : Aim) (aimed : (k : 
       walks m Z T at (λ _. ⊥) (λ to e. (to ≡ RESUME) × Holds c pc on m p 150 e) s pl ks (λ e z. absurd z) (λ a e g. low e g.1) (λ e ke z. absurd z)
       (λ a e ke g. subst (λ x. Show e x) (sym g.0) (resume_shown c pc on p e ke g.1 r)) me
     where
-      low : (e : Run) → Holds c pc on m p 150 e → e.passed ≤ 200
+      low : (e : Run) → Holds c pc on m p 150 e → e.steps ≤ 200
       low e h = omega (arith, h.within)
 
   pub leave_shown : (c : Registers) (pc : ℕ) (on : Bool) (p : List Access) (s : Run) → Keep s → Holds c pc on m p 130 s → Returns stay (record c { r2 = s.regs.r2 }) c.r31 on p → Show s LEAVE
@@ -147,7 +147,7 @@ module _ (m : Memory) (all : AllPlaced m) (stay : Stay) (Z : Aim) (aimed : (k : 
         walks m Z (tree DONE_NODES) DONE (λ _. ⊥) (λ to e. Exits c.r2 c z.epc on m p 130 to e) s all.done ks (λ e x. absurd x) (λ a e g. low e g.holds) (λ e ke x. absurd x)
         (λ a e ke g. subst (λ x. Show e x) (sym g.to_is) (exit_shown c z.epc on p c.r2 e ke g.holds g.value_is stop)) (done_meets c z on m p 100 130 s h (omega arith))
       where
-        low : (e : Run) → Holds c z.epc on m p 130 e → e.passed ≤ 200
+        low : (e : Run) → Holds c z.epc on m p 130 e → e.steps ≤ 200
         low e x = omega (arith, x.within)
 
     pub back_shown : HaltsBy stay 7 (PortWrite HALT_A c.r31 ∷ p) → Show s BACK
@@ -168,9 +168,16 @@ module _ (m : Memory) (all : AllPlaced m) (stay : Stay) (Z : Aim) (aimed : (k : 
       walks m Z (tree PUTCHAR_NODES) PUTCHAR (λ _. ⊥) (λ to e. Answers (c.r4 % 2 ^ 8) c pc on m q 130 to e) s all.putchar ks (λ e x. absurd x) (λ a e g. low e g.holds) (λ e ke x. absurd x)
       (λ a e ke g. subst (λ x. Show e x) (sym g.to_is) (leave_shown c pc on q e ke g.holds (subst P (sym g.answer) r))) (putchar_meets c pc on m p 100 130 s h (omega arith) r4)
     where
-      low : (e : Run) → Holds c pc on m (PortWrite CONSOLE_DATA c.r4 ∷ p) 130 e → e.passed ≤ 200
+      low : (e : Run) → Holds c pc on m (PortWrite CONSOLE_DATA c.r4 ∷ p) 130 e → e.steps ≤ 200
       low e x = omega (arith, x.within)
 
   pub bad_pointer_shown : (c : Registers) (pc : ℕ) (on : Bool) (p : List Access) (v : ℕ) (s : Run) → Keep s → Holds c pc on m p 130 s → s.regs.r8 ≡ v → HaltsBy stay 4 (PortWrite HALT_B c.r31 ∷ PortWrite HALT_A v ∷ p) → Show s BAD_POINTER
   bad_pointer_shown c pc on p v s ks h e stop =
       stops_here (tree BAD_POINTER_NODES) BAD_POINTER 4 (PortWrite HALT_B c.r31 ∷ PortWrite HALT_A v ∷ p) s all.bad_pointer ks stop (bad_pointer_meets c pc on m p 130 200 s h (omega arith) v e)
+
+  pub bad_thread_shown : (c : Registers) (pc : ℕ) (on : Bool) (p : List Access) (v : ℕ) (s : Run) → Keep s → Holds c pc on m p 130 s → s.regs.r8 ≡ v → HaltsBy stay 5 (PortWrite HALT_B c.r31 ∷ PortWrite HALT_A v ∷ p) → Show s BAD_THREAD
+  bad_thread_shown c pc on p v s ks h e stop =
+      stops_here (tree BAD_THREAD_NODES) BAD_THREAD 5 (PortWrite HALT_B c.r31 ∷ PortWrite HALT_A v ∷ p) s all.bad_thread ks stop (bad_thread_meets c pc on m p 130 200 s h (omega arith) v e)
+
+  pub deep_shown : (p : List Access) (v : ℕ) (s : Run) → Keep s → Spared m s.bytes → ports s.seen ≡ p → s.steps ≤ 130 → s.regs.r31 ≡ v → HaltsBy stay 6 (PortWrite HALT_A v ∷ p) → Show s DEEP
+  deep_shown p v s ks spared told few e stop = stops_here (tree DEEP_NODES) DEEP 6 (PortWrite HALT_A v ∷ p) s all.deep ks stop (deep_meets m p v 200 s spared told e (omega (arith, few)))

@@ -21,5 +21,6 @@ pub mod StaysServed
 pub mod StaysLoops
 pub mod StaysEnter
 pub mod StaysHeld
+pub mod StaysCalls
 pub mod ServesEvery
 pub mod StaysAll

@@ -1,5 +1,5 @@
 -- The words of a listing do what the listing says.
-use Rattle.std.proofs.Common.{◌≡◌, ℕ, zero, suc, ◌+◌, ◌*◌, ◌/◌, ◌%◌, ◌^◌, ◌<◌, ◌≤◌, ◌⊎◌, inl, inr, List, ◌∷◌, ◌++◌, Bool, true, Option, Some, None, refl, sym, ap, ◌∙◌, subst, arith, ⊎_elim}
+use Rattle.std.proofs.Common.{◌≡◌, ℕ, zero, suc, ◌+◌, ◌*◌, ◌/◌, ◌%◌, ◌^◌, ◌<◌, ◌⊎◌, inl, inr, List, ◌∷◌, ◌++◌, Bool, true, Option, None, refl, sym, ap, ◌∙◌, subst, arith, ⊎_elim}
 use Rattle.std.specs.Prelude.{nat_lt, ◌&&◌}
 use Rattle.std.proofs.lemmas.Bool.{lt-ltb}
 use Rattle.psx_ins.specs.declared.reg.Reg.{Reg}
@@ -17,15 +17,15 @@ use Rattle.psx_flow.specs.Well.{is_op, is_register, test_fits, fits}
 use Rattle.psx_flow.specs.Spaced.{load_of}
 use Rattle.psx_flow.specs.Lowered.{opposite, always, nop, branch, target_of, code, in_reach, in_region, reaches}
 use Rattle.psx_flow.specs.Run.{Run, state_at, done}
-use Rattle.psx_flow.specs.Meets.{Holds, passing, linking, Goal, Calls, Turns, Meets}
+use Rattle.psx_flow.specs.Meets.{Holds, passing, branching, linking, Goal, Calls, Turns, Meets}
 use Rattle.psx_flow.specs.Plain.{Board, board}
-use Rattle.psx_flow.specs.Reaches.{Keeps, Reaches}
+use Rattle.psx_flow.specs.Reaches.{Keeps}
 use Rattle.psx_flow.proofs.Rules.{decided}
 use Rattle.psx_flow.proofs.Step.{StandsAs, both, standing}
 use Rattle.psx_flow.proofs.Kept.{done_keeps}
 use Rattle.psx_flow.proofs.Room.{room, spaced, clear, none_pending, clear_after}
 use Rattle.psx_flow.proofs.Branches.{no_wrap, jumps_to, in_slot, opposite_fits}
-use Rattle.psx_flow.proofs.Moves.{stands_front, stands_at, pending_at, Moves, moves_on, From, reach_here, reach_then, reach_after, at_rest, one, two, taken, passed_by}
+use Rattle.psx_flow.proofs.Moves.{stands_front, stands_at, pending_at, Moves, Leads, From, reach_here, reach_then, reach_after, at_rest, one, two, taken, passed_by}
 
 pub target_fits : (a : ℕ) → nat_lt (target_of a) (2 ^ 26) ≡ true
 target_fits a = lt-ltb _ _ (small a)
@@ -51,72 +51,46 @@ Ends to K G e b = ((b ≡ to) × K e) ⊎ G b e
 
 module _ (kept : ℕ → Bool) (bus : ℕ → Bus) (few : (n : ℕ) → (bus n).value < 2 ^ 32) (first : Memory) where
   module _ (C : Calls) (known : (a ret : ℕ) (K : Goal) (c : ℕ) (s : Run) → Keeps kept first s → C a ret K s → From kept bus first c s a (λ e b. (b ≡ ret) × K e)) where
-    ends_at : (x to : ℕ) (K : Goal) (G : ℕ → Goal) (b : Board) (c n : ℕ) → x ≡ to → Reaches kept bus first b c n (Ends x K G) → Reaches kept bus first b c n (Ends to K G)
-    ends_at x to K G b c n e r = subst (λ y. Reaches kept bus first b c n (Ends y K G)) e r
+    ends_at : (x to : ℕ) (K : Goal) (G : ℕ → Goal) (b : Board) (c : ℕ) (s : Run) → x ≡ to → Leads kept bus first b c s (Ends x K G) → Leads kept bus first b c s (Ends to K G)
+    ends_at x to K G b c s e r = subst (λ y. Leads kept bus first b c s (Ends y K G)) e r
 
     -- a part of a tree, and what follows it
-    go_on : (x y : ℕ) (L : Goal) (G : ℕ → Goal) (Z : Run → ℕ → Type 0) (b : Board) (c n : ℕ) → x ≡ y → ((d : ℕ) (e : Run) → Keeps kept first e → L e → From kept bus first d e y Z) → ((e : Run) (t : ℕ) → G t e → Z e t) → Reaches kept bus first b c n (Ends x L G) → Reaches kept bus first b c n Z
-    go_on x y L G Z b c n e f g r =
-        reach_then kept bus first b c n _ Z r (λ d m t km. ⊎_elim (λ z. subst (λ a. From kept bus first d m a Z) (sym (z.0 ∙ e)) (f d m km z.1)) (λ k. reach_here kept bus first d m t Z km (g m t k)))
+    go_on : (x y : ℕ) (L : Goal) (G : ℕ → Goal) (Z : Run → ℕ → Type 0) (b : Board) (c : ℕ) (s : Run) → x ≡ y → ((d : ℕ) (e : Run) → Keeps kept first e → L e → From kept bus first d e y Z) → ((e : Run) (t : ℕ) → G t e → Z e t) → Leads kept bus first b c s (Ends x L G) → Leads kept bus first b c s Z
+    go_on x y L G Z b c s e f g r =
+        reach_then kept bus first b c s _ Z r (λ d m t km. ⊎_elim (λ z. subst (λ a. From kept bus first d m a Z) (sym (z.0 ∙ e)) (f d m km z.1)) (λ k. reach_here kept bus first d m t Z km (g m t k)))
 
-    -- a loop: k words have brought the board to its head
-    turns_run : (n k c : ℕ) (t : Test) (a : Tree) (at end : ℕ) (x : Board) (Z : Run → ℕ → Type 0) (G : ℕ → Goal) (K : Goal) (s : Run)
+    passing_keeps : (s : Run) → Keeps kept first s → Keeps kept first (passing s)
+    passing_keeps s k = record { bytes = k.bytes; masked = k.masked }
+
+    branching_keeps : (s : Run) → Keeps kept first s → Keeps kept first (branching s)
+    branching_keeps s k = record { bytes = k.bytes; masked = k.masked }
+
+    linking_keeps : (s : Run) (back : ℕ) → Keeps kept first s → Keeps kept first (linking s back)
+    linking_keeps s back k = record { bytes = k.bytes; masked = k.masked }
+
+    -- a loop, from its head
+    turns_run : (n c : ℕ) (t : Test) (a : Tree) (at end : ℕ) (Z : Run → ℕ → Type 0) (G : ℕ → Goal) (K : Goal) (s : Run)
         → ((L : Goal) (d : ℕ) (e : Run) → Keeps kept first e → Meets kept C a (at + 8) L G e → From kept bus first d e (at + 8) (Ends (at + (8 + 4 * size a)) L G))
         → ((d : ℕ) (e : Run) → Keeps kept first e → K e → From kept bus first d e end Z)
         → ((e : Run) (b : ℕ) → G b e → Z e b)
         → ((d : ℕ) (e : Run) → Keeps kept first e → Holds t e.regs → Moves kept bus first 2 (board e at d) (board e (at + 8) (d + 2)))
         → ((d : ℕ) (e : Run) → Keeps kept first e → Holds (opposite t) e.regs → Moves kept bus first 2 (board e at d) (board e end (d + 2)))
         → ((d : ℕ) (e : Run) → Keeps kept first e → Moves kept bus first 2 (board e (at + (8 + 4 * size a)) d) (board e at (d + 2)))
-        → k ≤ 2 → Keeps kept first s → Moves kept bus first k x (board s at (c + k))
-        → Turns n t (λ L. Meets kept C a (at + 8) L G) K s → Reaches kept bus first x c s.passed Z
-    turns_run zero k c t a at end x Z G K s body rest out into past back small ks run h = absurd h
-    turns_run (suc n) k c t a at end x Z G K s body rest out into past back small ks run h =
-        let e2 : c + k + 2 ≡ c + (k + 2) = omega arith in
+        → Keeps kept first s → Turns n t (λ L. Meets kept C a (at + 8) L G) K s → From kept bus first c s at Z
+    turns_run zero c t a at end Z G K s body rest out into past back ks h = absurd h
+    turns_run (suc n) c t a at end Z G K s body rest out into past back ks h =
         ⊎_elim
-        (λ y. reach_after kept bus first (k + 2) c s.passed (suc s.passed) x (board (passing s) (at + 8) (c + (k + 2))) Z (omega arith)
-        (moves_on kept bus first k 2 x (board s at (c + k)) _ run (into (c + k) s ks y) ∙ ap (λ d. Some (board s (at + 8) d)) e2) refl
-        (reach_then kept bus first _ (c + (k + 2)) (suc s.passed) _ Z (body _ (c + (k + 2)) (passing s) (same_keeps ks) (h.1 y)) (λ d m to km.
-        ⊎_elim
-        (λ z. subst (λ b. From kept bus first d m b Z) (sym z.0) (turns_run n 2 d t a at end (board m (at + (8 + 4 * size a)) d) Z G K m body rest out into past back (omega arith) km (back d m km) z.1))
-        (λ g. reach_here kept bus first d m to Z km (out m to g)))))
-        (λ y. reach_after kept bus first (k + 2) c s.passed (suc s.passed) x (board (passing s) end (c + (k + 2))) Z (omega arith)
-        (moves_on kept bus first k 2 x (board s at (c + k)) _ run (past (c + k) s ks y) ∙ ap (λ d. Some (board s end d)) e2) refl
-        (rest (c + (k + 2)) (passing s) (same_keeps ks) (h.0 y)))
+        (λ y. reach_after kept bus first 2 c s (passing s) _ (board (passing s) (at + 8) (c + 2)) Z (into c s ks y) (omega arith)
+        (go_on (at + (8 + 4 * size a)) (at + (8 + 4 * size a)) _ G Z _ (c + 2) (passing s) refl
+        (λ d m km z. reach_after kept bus first 2 d m (branching m) _ (board (branching m) at (d + 2)) Z (back d m km) (omega arith)
+        (turns_run n (d + 2) t a at end Z G K (branching m) body rest out into past back (branching_keeps m km) z))
+        out (body _ (c + 2) (passing s) (passing_keeps s ks) (h.1 y))))
+        (λ y. reach_after kept bus first 2 c s (passing s) _ (board (passing s) end (c + 2)) Z (past c s ks y) (omega arith) (rest (c + 2) (passing s) (passing_keeps s ks) (h.0 y)))
         (decided t s.regs)
-      where
-        same_keeps : Keeps kept first s → Keeps kept first (passing s)
-        same_keeps k = record { bytes = k.bytes; masked = k.masked }
-
-    -- the jump over the other side is made when its If has been passed
-    over_other : (c : ℕ) (s : Run) (x : Board) (b y z : ℕ) (L : Goal) (G : ℕ → Goal) (Z : Run → ℕ → Type 0) → Moves kept bus first 2 x (board s b (c + 2)) → ((d : ℕ) (m : Run) → Keeps kept first m → Moves kept bus first 2 (board m y d) (board m z (d + 2)))
-        → ((d : ℕ) (m : Run) → Keeps kept first m → L m → From kept bus first d m z Z) → ((m : Run) (n : ℕ) → G n m → Z m n) → From kept bus first (c + 2) (passing s) b (Ends y L G) → Reaches kept bus first x c s.passed Z
-    over_other c s x b y z L G Z into jump f g r =
-        ⊎_elim
-        (λ w. let q = f (c + 2 + r.count + 2) r.after r.keeps w.1 in
-        let at_y : Moves kept bus first r.count (board s b (c + 2)) (board r.after y (c + 2 + r.count)) = subst (λ n. Moves kept bus first r.count (board s b (c + 2)) (board r.after n (c + 2 + r.count))) w.0 r.run in
-        let t : c + 2 + r.count + 2 + q.count ≡ c + (2 + (r.count + (2 + q.count))) = omega arith in
-        record {
-          count = 2 + (r.count + (2 + q.count));
-          after = q.after;
-          to = q.to;
-          run = moves_on kept bus first 2 (r.count + (2 + q.count)) x (board s b (c + 2)) _ into (moves_on kept bus first r.count (2 + q.count) _ (board r.after y (c + 2 + r.count)) _ at_y (moves_on kept bus first 2 q.count _ (board r.after z (c + 2 + r.count + 2)) _ (jump (c + 2 + r.count) r.after r.keeps) q.run)) ∙ ap (λ n. Some (board q.after q.to n)) t;
-          bound = omega (arith, r.bound, q.bound);
-          keeps = q.keeps;
-          holds = q.holds;
-        })
-        (λ k. let t : c + 2 + r.count ≡ c + (2 + r.count) = omega arith in
-        record { count = 2 + r.count; after = r.after; to = r.to; run = moves_on kept bus first 2 r.count x (board s b (c + 2)) _ into r.run ∙ ap (λ n. Some (board r.after r.to n)) t; bound = omega (arith, r.bound); keeps = r.keeps; holds = g r.after r.to k })
-        r.holds
-
-    passing_keeps : (s : Run) → Keeps kept first s → Keeps kept first (passing s)
-    passing_keeps s k = record { bytes = k.bytes; masked = k.masked }
-
-    linking_keeps : (s : Run) (back : ℕ) → Keeps kept first s → Keeps kept first (linking s back)
-    linking_keeps s back k = record { bytes = k.bytes; masked = k.masked }
 
     pub run_tree : (T : Tree) (at : ℕ) (K : Goal) (G : ℕ → Goal) (c : ℕ) (s : Run) (raw : Registers) (p : Option (ℕ × ℕ)) → settled raw p ≡ s.regs → clear p T ≡ true
         → fits T ≡ true → reaches T at ≡ true → spaced T ≡ true → Keeps kept first s → StandsAs kept first at (code T at) → Meets kept C T at K G s
-        → Reaches kept bus first (standing (pending_at s raw p at) s.seen c) c s.passed (Ends (at + 4 * size T) K G)
+        → Leads kept bus first (standing (pending_at s raw p at) s.seen c) c s (Ends (at + 4 * size T) K G)
     run_tree Stop at K G c s raw p e clr f w sp ks st h =
         let end : at ≡ at + 4 * 0 = omega arith in
         at_rest kept bus first s raw p at c _ e (none_pending p Stop clr refl) (reach_here kept bus first c s at _ ks (inl (end, h)))
@@ -126,8 +100,8 @@ module _ (kept : ℕ → Bool) (bus : ℕ → Bus) (few : (n : ℕ) → (bus n).
         let m : Run = done i s at (bus c) in
         let y = effect i (state_at s at) (bus c) in
         let end : at + 4 + 4 * size r ≡ at + 4 * (1 + size r) = omega arith in
-        reach_after kept bus first 1 c s.passed m.passed _ _ _ (omega arith) (one kept bus first c i s raw p at r e clr ks st.0 fp.0 h.0) refl
-        (ends_at _ _ K G _ (c + 1) m.passed end
+        reach_after kept bus first 1 c s m _ _ _ (one kept bus first c i s raw p at r e clr ks st.0 fp.0 h.0) (omega arith)
+        (ends_at _ _ K G _ (c + 1) m end
         (run_tree r (at + 4) K G (c + 1) m y.context.regs y.context.pending refl (clear_after i s at (bus c) r sq.0) fp.1 w sq.1 (done_keeps kept first i s at (bus c) h.1 ks) st.1 (h.2 (bus c) (few c))))
     run_tree (When t a r) at K G c s raw p e clr f w sp ks st h =
         let end : ℕ = at + (8 + 4 * size a) in
@@ -139,12 +113,12 @@ module _ (kept : ℕ → Bool) (bus : ℕ → Bus) (few : (n : ℕ) → (bus n).
         let to : at + 8 + 4 * size a ≡ end = omega arith in
         let fin : end + 4 * size r ≡ at + 4 * (2 + size a + size r) = omega arith in
         let rest : (d : ℕ) (m : Run) → Keeps kept first m → Meets kept C r end K G m → From kept bus first d m end (Ends (at + 4 * (2 + size a + size r)) K G) =
-        λ d m km k. ends_at _ _ K G _ d m.passed fin (run_tree r end K G d m m.regs None refl refl f1.1 w1.1 sq.1 km (stands_at kept first (at + 8) end a (code r end) to body) k) in
+        λ d m km k. ends_at _ _ K G _ d m fin (run_tree r end K G d m m.regs None refl refl f1.1 w1.1 sq.1 km (stands_at kept first (at + 8) end a (code r end) to body) k) in
         at_rest kept bus first s raw p at c _ e (none_pending p (When t a r) clr refl)
         (⊎_elim
-        (λ y. reach_after kept bus first 2 c s.passed (suc s.passed) _ (board (passing s) (at + 8) (c + 2)) _ (omega arith) (passed_by kept bus first c t s at end ks st.0 st.1.0 f0.0 y) refl
-        (go_on (at + 8 + 4 * size a) end _ G _ _ (c + 2) (suc s.passed) to rest (λ m b g. inr g) (run_tree a (at + 8) _ G (c + 2) (passing s) s.regs None refl refl f1.0 w1.0 sq.0 (passing_keeps s ks) (stands_front kept first (at + 8) (code a (at + 8)) (code r end) body) (h.0 y))))
-        (λ n. reach_after kept bus first 2 c s.passed (suc s.passed) _ (board (passing s) end (c + 2)) _ (omega arith) (taken kept bus first c (opposite t) s at end ks st.0 st.1.0 (opposite_fits t f0.0) w0.0 (even_8 at (size a) st.0.aligned) n) refl
+        (λ y. reach_after kept bus first 2 c s (passing s) _ (board (passing s) (at + 8) (c + 2)) _ (passed_by kept bus first c t s at end ks st.0 st.1.0 f0.0 y) (omega arith)
+        (go_on (at + 8 + 4 * size a) end _ G _ _ (c + 2) (passing s) to rest (λ m b g. inr g) (run_tree a (at + 8) _ G (c + 2) (passing s) s.regs None refl refl f1.0 w1.0 sq.0 (passing_keeps s ks) (stands_front kept first (at + 8) (code a (at + 8)) (code r end) body) (h.0 y))))
+        (λ n. reach_after kept bus first 2 c s (passing s) _ (board (passing s) end (c + 2)) _ (taken kept bus first c (opposite t) s at end ks st.0 st.1.0 (opposite_fits t f0.0) w0.0 (even_8 at (size a) st.0.aligned) n) (omega arith)
         (rest (c + 2) (passing s) (passing_keeps s ks) (h.1 n)))
         (decided t s.regs))
     run_tree (Choose t a b r) at K G c s raw p e clr f w sp ks st h =
@@ -166,14 +140,16 @@ module _ (kept : ℕ → Bool) (bus : ℕ → Bus) (few : (n : ℕ) → (bus n).
         let to : other + 4 * size b ≡ end = omega arith in
         let fin : end + 4 * size r ≡ at + 4 * (4 + size a + size b + size r) = omega arith in
         let rest : (d : ℕ) (m : Run) → Keeps kept first m → Meets kept C r end K G m → From kept bus first d m end (Ends (at + 4 * (4 + size a + size b + size r)) K G) =
-        λ d m km k. ends_at _ _ K G _ d m.passed fin (run_tree r end K G d m m.regs None refl refl f2.1 w2.1 s1.1 km (stands_at kept first other end b (code r end) to body_b) k) in
+        λ d m km k. ends_at _ _ K G _ d m fin (run_tree r end K G d m m.regs None refl refl f2.1 w2.1 s1.1 km (stands_at kept first other end b (code r end) to body_b) k) in
         at_rest kept bus first s raw p at c _ e (none_pending p (Choose t a b r) clr refl)
         (⊎_elim
-        (λ y. over_other c s _ (at + 8) over end _ G _ (passed_by kept bus first c t s at other ks st.0 st.1.0 f0.0 y)
-        (λ d m km. taken kept bus first d always m over end km jump.0 jump.1.0 refl near.1 (even_two at (size a) (size b) st.0.aligned) refl) rest (λ m b g. inr g)
-        (ends_at _ _ _ G _ (c + 2) (suc s.passed) to_over (run_tree a (at + 8) _ G (c + 2) (passing s) s.regs None refl refl f1.0 w1.0 s0.0 (passing_keeps s ks) (stands_front kept first (at + 8) (code a (at + 8)) tail body) (h.0 y))))
-        (λ n. reach_after kept bus first 2 c s.passed (suc s.passed) _ (board (passing s) other (c + 2)) _ (omega arith) (taken kept bus first c (opposite t) s at other ks st.0 st.1.0 (opposite_fits t f0.0) near.0 (even_16 at (size a) st.0.aligned) n) refl
-        (go_on (other + 4 * size b) end _ G _ _ (c + 2) (suc s.passed) to rest (λ m b g. inr g) (run_tree b other _ G (c + 2) (passing s) s.regs None refl refl f2.0 w2.0 s1.0 (passing_keeps s ks) (stands_front kept first other (code b other) (code r end) body_b) (h.1 n))))
+        (λ y. reach_after kept bus first 2 c s (passing s) _ (board (passing s) (at + 8) (c + 2)) _ (passed_by kept bus first c t s at other ks st.0 st.1.0 f0.0 y) (omega arith)
+        (go_on (at + 8 + 4 * size a) over _ G _ _ (c + 2) (passing s) to_over
+        (λ d m km k. reach_after kept bus first 2 d m (branching m) _ (board (branching m) end (d + 2)) _ (taken kept bus first d always m over end km jump.0 jump.1.0 refl near.1 (even_two at (size a) (size b) st.0.aligned) refl) (omega arith)
+        (rest (d + 2) (branching m) (branching_keeps m km) k)) (λ m b g. inr g)
+        (run_tree a (at + 8) _ G (c + 2) (passing s) s.regs None refl refl f1.0 w1.0 s0.0 (passing_keeps s ks) (stands_front kept first (at + 8) (code a (at + 8)) tail body) (h.0 y))))
+        (λ n. reach_after kept bus first 2 c s (passing s) _ (board (passing s) other (c + 2)) _ (taken kept bus first c (opposite t) s at other ks st.0 st.1.0 (opposite_fits t f0.0) near.0 (even_16 at (size a) st.0.aligned) n) (omega arith)
+        (go_on (other + 4 * size b) end _ G _ _ (c + 2) (passing s) to rest (λ m b g. inr g) (run_tree b other _ G (c + 2) (passing s) s.regs None refl refl f2.0 w2.0 s1.0 (passing_keeps s ks) (stands_front kept first other (code b other) (code r end) body_b) (h.1 n))))
         (decided t s.regs))
     run_tree (Loop t a r) at K G c s raw p e clr f w sp ks st h =
         let back : ℕ = at + (8 + 4 * size a) in
@@ -190,16 +166,15 @@ module _ (kept : ℕ → Bool) (bus : ℕ → Bus) (few : (n : ℕ) → (bus n).
         let turn = stands_at kept first (at + 8) back a tail to body in
         let er : back + 4 + 4 ≡ end = omega arith in
         let fin : end + 4 * size r ≡ at + 4 * (4 + size a + size r) = omega arith in
-        let none : c ≡ c + 0 = omega arith in
         at_rest kept bus first s raw p at c _ e (none_pending p (Loop t a r) clr refl)
-        (turns_run h.0 0 c t a at end (board s at c) _ G (Meets kept C r end K G) s
-        (λ L d m km k. ends_at _ _ L G _ d m.passed to (run_tree a (at + 8) L G d m m.regs None refl refl f1.0 w1.0 sq.0 km (stands_front kept first (at + 8) (code a (at + 8)) tail body) k))
-        (λ d m km k. ends_at _ _ K G _ d m.passed fin (run_tree r end K G d m m.regs None refl refl f1.1 w1.1 sq.1 km (subst (λ n. StandsAs kept first n (code r end)) er turn.1.1) k))
+        (turns_run h.0 c t a at end _ G (Meets kept C r end K G) s
+        (λ L d m km k. ends_at _ _ L G _ d m to (run_tree a (at + 8) L G d m m.regs None refl refl f1.0 w1.0 sq.0 km (stands_front kept first (at + 8) (code a (at + 8)) tail body) k))
+        (λ d m km k. ends_at _ _ K G _ d m fin (run_tree r end K G d m m.regs None refl refl f1.1 w1.1 sq.1 km (subst (λ n. StandsAs kept first n (code r end)) er turn.1.1) k))
         (λ m b g. inr g)
         (λ d m km y. passed_by kept bus first d t m at end km st.0 st.1.0 f0.0 y)
         (λ d m km y. taken kept bus first d (opposite t) m at end km st.0 st.1.0 (opposite_fits t f0.0) near.0 (even_16 at (size a) st.0.aligned) y)
         (λ d m km. taken kept bus first d always m back at km turn.0 turn.1.0 refl near.1 st.0.aligned refl)
-        (omega arith) ks (ap (λ x. Some (board s at x)) none) h.1)
+        ks h.1)
     run_tree (Visit a r) at K G c s raw p e clr f w sp ks st h =
         let w0 = both (in_region at a) (reaches r (at + 8)) w in
         let e8 : at + 4 + 4 ≡ at + 8 = omega arith in
@@ -207,20 +182,20 @@ module _ (kept : ℕ → Bool) (bus : ℕ → Bus) (few : (n : ℕ) → (bus n).
         let into : Run = linking s (at + 8) in
         let link : ((at + 4) % 2 ^ 32 + 4) % 2 ^ 32 ≡ at + 8 = ap (λ x. (x + 4) % 2 ^ 32) (no_wrap at st.0.mapped) ∙ no_wrap (at + 4) st.1.0.mapped ∙ e8 in
         at_rest kept bus first s raw p at c _ e (none_pending p (Visit a r) clr refl)
-        (reach_after kept bus first 2 c s.passed (suc s.passed) _ (board into a (c + 2)) _ (omega arith)
+        (reach_after kept bus first 2 c s into _ (board into a (c + 2)) _
         (two kept bus first c (JAL (target_of a)) s into at a ks (linking_keeps s (at + 8) ks) st.0 st.1.0 (target_fits a) refl refl
-        (ap (λ x. in_slot (linking s x) ((at + 4) % 2 ^ 32) ((at + 4) % 2 ^ 32 / 2 ^ 28 * 2 ^ 28 + a / 4 % 2 ^ 26 * 4)) link ∙ ap (in_slot into ((at + 4) % 2 ^ 32)) (jumps_to at a w0.0)) refl) refl
-        (reach_then kept bus first _ (c + 2) (suc s.passed) _ _ (known a _ _ _ into (linking_keeps s (at + 8) ks) h) (λ d m b km z.
-        subst (λ n. From kept bus first d m n (Ends (at + 4 * (2 + size r)) K G)) (sym z.0) (ends_at _ _ K G _ d m.passed fin (run_tree r (at + 8) K G d m m.regs None refl refl f w0.1 sp km (subst (λ n. StandsAs kept first n (code r (at + 8))) e8 st.1.1) z.1)))))
+        (ap (λ x. in_slot (linking s x) ((at + 4) % 2 ^ 32) ((at + 4) % 2 ^ 32 / 2 ^ 28 * 2 ^ 28 + a / 4 % 2 ^ 26 * 4)) link ∙ ap (in_slot into ((at + 4) % 2 ^ 32)) (jumps_to at a w0.0)) refl) (omega arith)
+        (reach_then kept bus first _ (c + 2) into _ _ (known a _ _ _ into (linking_keeps s (at + 8) ks) h) (λ d m b km z.
+        subst (λ n. From kept bus first d m n (Ends (at + 4 * (2 + size r)) K G)) (sym z.0) (ends_at _ _ K G _ d m fin (run_tree r (at + 8) K G d m m.regs None refl refl f w0.1 sp km (subst (λ n. StandsAs kept first n (code r (at + 8))) e8 st.1.1) z.1)))))
     run_tree (Go a r) at K G c s raw p e clr f w sp ks st h =
         let w0 = both (in_region at a) (reaches r (at + 8)) w in
         at_rest kept bus first s raw p at c _ e (none_pending p (Go a r) clr refl)
-        (reach_after kept bus first 2 c s.passed (suc s.passed) _ (board (passing s) a (c + 2)) _ (omega arith)
-        (two kept bus first c (J (target_of a)) s (passing s) at a ks (passing_keeps s ks) st.0 st.1.0 (target_fits a) refl refl (ap (in_slot s ((at + 4) % 2 ^ 32)) (jumps_to at a w0.0)) refl) refl
+        (reach_after kept bus first 2 c s (passing s) _ (board (passing s) a (c + 2)) _
+        (two kept bus first c (J (target_of a)) s (passing s) at a ks (passing_keeps s ks) st.0 st.1.0 (target_fits a) refl refl (ap (in_slot s ((at + 4) % 2 ^ 32)) (jumps_to at a w0.0)) refl) (omega arith)
         (reach_here kept bus first _ _ _ _ (passing_keeps s ks) (inr h)))
     run_tree (GoTo n r) at K G c s raw p e clr f w sp ks st h =
         let f0 = both (is_register n) (fits r) f in
         at_rest kept bus first s raw p at c _ e (none_pending p (GoTo n r) clr refl)
-        (reach_after kept bus first 2 c s.passed (suc s.passed) _ (board (passing s) (register s.regs n.0) (c + 2)) _ (omega arith)
-        (two kept bus first c (JR n) s (passing s) at (register s.regs n.0) ks (passing_keeps s ks) st.0 st.1.0 (register_fits n f0.0) refl refl refl refl) refl
+        (reach_after kept bus first 2 c s (passing s) _ (board (passing s) (register s.regs n.0) (c + 2)) _
+        (two kept bus first c (JR n) s (passing s) at (register s.regs n.0) ks (passing_keeps s ks) st.0 st.1.0 (register_fits n f0.0) refl refl refl refl) (omega arith)
         (reach_here kept bus first _ _ _ _ (passing_keeps s ks) (inr h)))

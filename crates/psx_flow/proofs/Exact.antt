@@ -1,5 +1,5 @@
 -- Where a listing meets a goal for all answers, its words come to it by a run of the relation.
-use Rattle.std.proofs.Common.{◌≡◌, ℕ, zero, suc, ◌+◌, ◌*◌, ◌^◌, ◌<◌, inl, inr, List, [], ◌∷◌, Bool, true, false, cond, None, refl, sym, subst, ⊎_elim}
+use Rattle.std.proofs.Common.{◌≡◌, ℕ, zero, suc, ◌+◌, ◌*◌, ◌^◌, ◌<◌, inl, inr, List, [], ◌∷◌, Bool, true, false, cond, None, refl, sym, subst, arith, ⊎_elim}
 use Rattle.std.specs.Prelude.{nat_eq}
 use Rattle.std.proofs.lemmas.Bool.{eqb-true}
 use Rattle.psx_ins.specs.declared.ins.Ins.{Ins}
@@ -9,9 +9,10 @@ use Rattle.psx_cpu.specs.Processor.{Bus}
 use Rattle.psx_flow.specs.declared.node.Test.{Test}
 use Rattle.psx_flow.specs.Tree.{Tree, Stop, Do, When, Choose, Loop, Visit, Go, GoTo, size}
 use Rattle.psx_flow.specs.Run.{Run, done, spares}
-use Rattle.psx_flow.specs.Meets.{passing, Goal, Calls, Turns, Meets, calls}
-use Rattle.psx_flow.specs.Reaches.{Keeps, IsPlaced, ArePlaced}
-use Rattle.psx_flow.specs.Runs.{Ending, Falls, Goes, Then, TurnsOf, Called, Runs, called}
+use Rattle.psx_flow.specs.Meets.{passing, branching, Goal, Calls, Turns, Meets, calls}
+use Rattle.psx_flow.specs.Reaches.{Keeps, IsPlaced, ArePlaced, Reaches}
+use Rattle.psx_flow.specs.Laws.{RunsTo}
+use Rattle.psx_flow.specs.Runs.{Ending, Falls, Goes, Then, TurnsOf, Called, any, Runs, called}
 use Rattle.psx_flow.specs.Plain.{board}
 use Rattle.psx_flow.proofs.Rules.{Fair, fair, meets_mono}
 use Rattle.psx_flow.specs.Lowered.{code}
@@ -19,6 +20,7 @@ use Rattle.psx_flow.proofs.Step.{as_code}
 use Rattle.psx_flow.proofs.Room.{tree_spaced}
 use Rattle.psx_flow.proofs.Moves.{From, reach_here, reach_then}
 use Rattle.psx_flow.proofs.Compiled.{Ends, run_tree}
+use Rattle.psx_flow.proofs.Counts.{Few, few_to}
 
 -- ---- calls
 
@@ -32,20 +34,15 @@ module _ (kept : ℕ → Bool) (bus : ℕ → Bus) (few : (n : ℕ) → (bus n).
   run_calls (l ∷ ls) pl a ret K c s ks h =
       cond_split (nat_eq a l.0) _ _ _
       (λ e k. subst (λ n. From kept bus first c s n (λ m b. (b ≡ ret) × K m)) (sym (eqb-true a l.0 e))
-      (reach_then kept bus first (board s l.0 c) c s.passed _ _ (run_tree kept bus few first (calls kept ls) (run_calls ls pl.1) l.1 l.0 (λ _. ⊥) (λ b m. (b ≡ ret) × K m) c s s.regs None refl refl pl.0.fitting pl.0.reaching (tree_spaced l.1 [] refl pl.0.roomy) ks (as_code kept first l.0 (code l.1 l.0) pl.0.words) k)
+      (reach_then kept bus first (board s l.0 c) c s _ _ (run_tree kept bus few first (calls kept ls) (run_calls ls pl.1) l.1 l.0 (λ _. ⊥) (λ b m. (b ≡ ret) × K m) c s s.regs None refl refl pl.0.fitting pl.0.reaching (tree_spaced l.1 [] refl pl.0.roomy) ks (as_code kept first l.0 (code l.1 l.0) pl.0.words) k)
       (λ d m b km. ⊎_elim (λ z. absurd z.1) (λ z. reach_here kept bus first d m b _ km z))))
       (λ e k. run_calls ls pl.1 a ret K c s ks k) h
 
   -- a listing with its calls comes to its goal
-  pub run_listing : (ls : List (ℕ × Tree)) → ArePlaced kept first ls → (T : Tree) (at : ℕ) (K : Goal) (G : ℕ → Goal) (c : ℕ) (s : Run) → IsPlaced kept first at T → Keeps kept first s → Meets kept (calls kept ls) T at K G s
+  run_listing : (ls : List (ℕ × Tree)) → ArePlaced kept first ls → (T : Tree) (at : ℕ) (K : Goal) (G : ℕ → Goal) (c : ℕ) (s : Run) → IsPlaced kept first at T → Keeps kept first s → Meets kept (calls kept ls) T at K G s
       → From kept bus first c s at (Ends (at + 4 * size T) K G)
   run_listing ls pl T at K G c s p ks h =
       run_tree kept bus few first (calls kept ls) (run_calls ls pl) T at K G c s s.regs None refl refl p.fitting p.reaching (tree_spaced T [] refl p.roomy) ks (as_code kept first at (code T at) p.words) h
-
-  -- a routine, which ends by jumps alone
-  pub run_routine : (ls : List (ℕ × Tree)) → ArePlaced kept first ls → (T : Tree) (at : ℕ) (G : ℕ → Goal) (c : ℕ) (s : Run) → IsPlaced kept first at T → Keeps kept first s → Meets kept (calls kept ls) T at (λ _. ⊥) G s → From kept bus first c s at (λ e b. G b e)
-  run_routine ls pl T at G c s p ks h =
-      reach_then kept bus first (board s at c) c s.passed _ _ (run_listing ls pl T at (λ _. ⊥) G c s p ks h) (λ d m b km. ⊎_elim (λ z. absurd z.1) (λ g. reach_here kept bus first d m b _ km g))
 
 -- ---- runs
 
@@ -71,29 +68,30 @@ module _ (kept : ℕ → Bool) (may : Ins → Context → Bool) (sparing : (i : 
     turns_into t a r at to K G body rest (suc n) s Z i h = (
       λ e. rest (passing s) Z (λ x w. i x (inl (e, w))) (h.0 e),
       λ e. meets_mono kept C f a at _ _ _ _ (passing s)
-          (λ m x. turns_into t a r at to K G body rest n m Z (λ y w. i y (inr (e, inl (m, x.1, w)))) x.0)
+          (λ m x. turns_into t a r at to K G body rest n (branching m) Z (λ y w. i y (inr (e, inl (m, x.1, w)))) x.0)
           (λ b m x. (x.0, i (Goes b m) (inr (e, inr (b, m, x.1, refl)))))
           (body _ (passing s) (Runs may R a at (passing s)) (λ y w. w) (h.1 e)),
     )
 
-    -- a part, and what follows it
-    part_into : (a r : Tree) (at to : ℕ) (K : Goal) (G : ℕ → Goal) (s : Run) (Z : Ending → Type 0)
+    -- a part, and what follows it in the state to which the run goes over
+    part_into : (a r : Tree) (at to : ℕ) (K : Goal) (G : ℕ → Goal) (next : Run → Run) (s : Run) (Z : Ending → Type 0)
         → ((L : Goal) (s : Run) (Z : Ending → Type 0) → ((e : Ending) → Runs may R a at s e → Z e) → Meets kept C a at L G s → Meets kept C a at (Falling L Z) (Going G Z) s)
         → ((s : Run) (Z : Ending → Type 0) → ((e : Ending) → Runs may R r to s e → Z e) → Meets kept C r to K G s → Meets kept C r to (Falling K Z) (Going G Z) s)
-        → ((e : Ending) → Then (Runs may R a at) (Runs may R r to) s e → Z e) → Meets kept C a at (Meets kept C r to K G) G s → Meets kept C a at (Meets kept C r to (Falling K Z) (Going G Z)) (Going G Z) s
-    part_into a r at to K G s Z body rest i h =
-        meets_mono kept C f a at _ _ _ _ s (λ m x. rest m Z (λ y w. i y (inl (m, x.1, w))) x.0) (λ b m x. (x.0, i (Goes b m) (inr (b, m, x.1, refl)))) (body _ s (Runs may R a at s) (λ y w. w) h)
+        → ((e : Ending) → Then (Runs may R a at) (λ m. Runs may R r to (next m)) s e → Z e) → Meets kept C a at (λ m. Meets kept C r to K G (next m)) G s
+        → Meets kept C a at (λ m. Meets kept C r to (Falling K Z) (Going G Z) (next m)) (Going G Z) s
+    part_into a r at to K G next s Z body rest i h =
+        meets_mono kept C f a at _ _ _ _ s (λ m x. rest (next m) Z (λ y w. i y (inl (m, x.1, w))) x.0) (λ b m x. (x.0, i (Goes b m) (inr (b, m, x.1, refl)))) (body _ s (Runs may R a at s) (λ y w. w) h)
 
     pub into : (T : Tree) (at : ℕ) (K : Goal) (G : ℕ → Goal) (s : Run) (Z : Ending → Type 0) → ((e : Ending) → Runs may R T at s e → Z e) → Meets kept C T at K G s → Meets kept C T at (Falling K Z) (Going G Z) s
     into Stop at K G s Z i h = (h, i (Falls s) refl)
     into (Do o r) at K G s Z i h = (h.0, h.1, λ bus lt. into r (at + 4) K G (done o s at bus) Z (λ e w. i e (h.0, sparing o _ h.1, (bus, lt, w))) (h.2 bus lt))
     into (When t a r) at K G s Z i h = (
-      λ e. part_into a r (at + 8) (at + (8 + 4 * size a)) K G (passing s) Z (λ L. into a (at + 8) L G) (into r (at + (8 + 4 * size a)) K G) (λ x w. i x (inl (e, w))) (h.0 e),
+      λ e. part_into a r (at + 8) (at + (8 + 4 * size a)) K G (λ m. m) (passing s) Z (λ L. into a (at + 8) L G) (into r (at + (8 + 4 * size a)) K G) (λ x w. i x (inl (e, w))) (h.0 e),
       λ e. into r (at + (8 + 4 * size a)) K G (passing s) Z (λ x w. i x (inr (e, w))) (h.1 e),
     )
     into (Choose t a b r) at K G s Z i h = (
-      λ e. part_into a r (at + 8) (at + (16 + 4 * size a + 4 * size b)) K G (passing s) Z (λ L. into a (at + 8) L G) (into r (at + (16 + 4 * size a + 4 * size b)) K G) (λ x w. i x (inl (e, w))) (h.0 e),
-      λ e. part_into b r (at + (16 + 4 * size a)) (at + (16 + 4 * size a + 4 * size b)) K G (passing s) Z (λ L. into b (at + (16 + 4 * size a)) L G) (into r (at + (16 + 4 * size a + 4 * size b)) K G) (λ x w. i x (inr (e, w))) (h.1 e),
+      λ e. part_into a r (at + 8) (at + (16 + 4 * size a + 4 * size b)) K G branching (passing s) Z (λ L. into a (at + 8) L G) (into r (at + (16 + 4 * size a + 4 * size b)) K G) (λ x w. i x (inl (e, w))) (h.0 e),
+      λ e. part_into b r (at + (16 + 4 * size a)) (at + (16 + 4 * size a + 4 * size b)) K G (λ m. m) (passing s) Z (λ L. into b (at + (16 + 4 * size a)) L G) (into r (at + (16 + 4 * size a + 4 * size b)) K G) (λ x w. i x (inr (e, w))) (h.1 e),
     )
     into (Loop t a r) at K G s Z i h =
         (h.0, turns_into t a r (at + 8) (at + (16 + 4 * size a)) K G (λ L. into a (at + 8) L G) (into r (at + (16 + 4 * size a)) K G) h.0 s Z (λ e w. i e (h.0, w)) h.1)
@@ -115,10 +113,24 @@ module _ (kept : ℕ → Bool) (may : Ins → Context → Bool) (sparing : (i : 
           (into (calls kept ls) (fair kept ls) (called may ls) t l.1 l.0 (λ _. ⊥) (λ b m. (b ≡ back) × K m) s (Runs may (called may ls) l.1 l.0 s) (λ e w. w) h)
       go a back K s t false h = t.told a back K s h
 
-  -- the words come to the goal, by a run of the relation
-  pub run_exactly : (bus : ℕ → Bus) (few : (n : ℕ) → (bus n).value < 2 ^ 32) (first : Memory) (ls : List (ℕ × Tree)) → ArePlaced kept first ls → (T : Tree) (at : ℕ) (K : Goal) (G : ℕ → Goal) (c : ℕ) (s : Run)
-      → IsPlaced kept first at T → Keeps kept first s → Meets kept (calls kept ls) T at K G s
-      → From kept bus first c s at (Ends (at + 4 * size T) (λ e. K e × Runs may (called may ls) T at s (Falls e)) (λ b e. G b e × Runs may (called may ls) T at s (Goes b e)))
-  run_exactly bus few first ls pl T at K G c s p ks h =
-      run_listing kept bus few first ls pl T at (Falling K (Runs may (called may ls) T at s)) (Going G (Runs may (called may ls) T at s)) c s p ks
-      (into (calls kept ls) (fair kept ls) (called may ls) (tells ls) T at K G s (Runs may (called may ls) T at s) (λ e w. w) h)
+  module _ (bus : ℕ → Bus) (few : (n : ℕ) → (bus n).value < 2 ^ 32) (first : Memory) (ls : List (ℕ × Tree)) (pl : ArePlaced kept first ls) where
+    -- the words come to the goal, by a run of the relation
+    pub run_exactly : (T : Tree) (at : ℕ) (K : Goal) (G : ℕ → Goal) (c : ℕ) (s : Run) → IsPlaced kept first at T → Keeps kept first s → Meets kept (calls kept ls) T at K G s
+        → Reaches kept bus first (board s at c) c s (λ e to. Ends (at + 4 * size T) K G e to × RunsTo may (called may ls) T at s e to)
+    run_exactly T at K G c s p ks h =
+        let q = run_listing kept bus few first ls pl T at (Falling K (Runs may (called may ls) T at s)) (Going G (Runs may (called may ls) T at s)) c s p ks
+        (into (calls kept ls) (fair kept ls) (called may ls) (tells ls) T at K G s (Runs may (called may ls) T at s) (λ e w. w) h) in
+        let z = split T at K G s q.after q.to q.holds in
+        let b : Few s q.after = few_to may ls T at s q.after q.to z.1 in
+        record { count = q.count; after = q.after; to = q.to; run = q.run; exact = q.exact; bound = omega (arith, q.exact, b); keeps = q.keeps; holds = z }
+      where
+        split : (T : Tree) (at : ℕ) (K : Goal) (G : ℕ → Goal) (s e : Run) (to : ℕ) → Ends (at + 4 * size T) (Falling K (Runs may (called may ls) T at s)) (Going G (Runs may (called may ls) T at s)) e to
+            → Ends (at + 4 * size T) K G e to × RunsTo may (called may ls) T at s e to
+        split T at K G s e to h = ⊎_elim (λ x. (inl (x.0, x.1.0), inl (x.0, x.1.1))) (λ x. (inr x.0, inr x.1)) h
+
+-- a routine, which ends by jumps alone, comes to its goal
+pub run_routine : (kept : ℕ → Bool) (bus : ℕ → Bus) (few : (n : ℕ) → (bus n).value < 2 ^ 32) (first : Memory) (ls : List (ℕ × Tree)) → ArePlaced kept first ls → (T : Tree) (at : ℕ) (G : ℕ → Goal) (c : ℕ) (s : Run) → IsPlaced kept first at T → Keeps kept first s
+    → Meets kept (calls kept ls) T at (λ _. ⊥) G s → Reaches kept bus first (board s at c) c s (λ e to. G to e)
+run_routine kept bus few first ls pl T at G c s p ks h =
+    let q = run_exactly kept any (λ i c e. refl) bus few first ls pl T at (λ _. ⊥) G c s p ks h in
+    record { count = q.count; after = q.after; to = q.to; run = q.run; exact = q.exact; bound = q.bound; keeps = q.keeps; holds = ⊎_elim (λ x. absurd x.1) (λ x. x) q.holds.0 }

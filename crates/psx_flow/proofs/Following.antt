@@ -1,5 +1,5 @@
 -- Words that are run with some answers of the bus, one part after another.
-use Rattle.std.proofs.Common.{◌≡◌, ℕ, zero, suc, ◌+◌, ◌-◌, ◌*◌, ◌^◌, ◌<◌, ◌≤◌, Bool, true, false, Option, Some, None, refl, sym, ap, ◌∙◌, subst, arith, ⊎_elim}
+use Rattle.std.proofs.Common.{◌≡◌, ℕ, zero, suc, ◌+◌, ◌*◌, ◌^◌, ◌<◌, ◌≤◌, Bool, true, false, Option, Some, None, refl, sym, ap, ◌∙◌, subst, arith, ⊎_elim}
 use Rattle.std.specs.Prelude.{nat_lt, if◌then◌else◌}
 use Rattle.std.proofs.lemmas.Bool.{lt-ltb}
 use Rattle.psx_base.specs.Memory.{Memory}
@@ -11,7 +11,7 @@ use Rattle.psx_flow.specs.declared.node.Test.{Test}
 use Rattle.psx_flow.specs.Tree.{Tree, size}
 use Rattle.psx_flow.specs.Lowered.{opposite}
 use Rattle.psx_flow.specs.Run.{Run}
-use Rattle.psx_flow.specs.Meets.{Holds, passing, linking}
+use Rattle.psx_flow.specs.Meets.{Holds, passing, branching, linking}
 use Rattle.psx_flow.specs.Runs.{Ending, Falls, Goes, Then, TurnsOf}
 use Rattle.psx_flow.specs.Plain.{Board, went, onward, seen_at, on, steps, board}
 use Rattle.psx_flow.specs.Reaches.{Keeps}
@@ -55,13 +55,13 @@ few_before c a b f g n = go (nat_lt n c)
     go false = g n
 
 module _ (kept : ℕ → Bool) (first : Memory) where
-  -- from a board of count c the words come to e at `to`, for some answers; n is four times the nodes passed before
+  -- from a board of count c the words come to e at `to`, for some answers, in exactly the steps that the run makes; it has made n before
   pub record Follows (x : Board) (c n : ℕ) (e : Run) (to : ℕ) : Type 0 where
     pub answers : ℕ → Bus
     pub few : (k : ℕ) → (answers k).value < 2 ^ 32
     pub count : ℕ
     pub run : steps answers count x ≡ Some (board e to (c + count))
-    pub bound : count + n ≤ 4 * e.passed
+    pub exact : count + n ≡ e.steps
     pub keeps : Keeps kept first e
 
   abbrev pub Comes : Board → ℕ → ℕ → ℕ → Ending → Type 0
@@ -72,24 +72,24 @@ module _ (kept : ℕ → Bool) (first : Memory) where
   abbrev pub Always : ℕ → Board → Board → Type 0
   Always k x y = (bus : ℕ → Bus) → Moves kept bus first k x y
 
-  pub here : (c : ℕ) (s : Run) (pc : ℕ) → Keeps kept first s → Follows (board s pc c) c (4 * s.passed) s pc
-  here c s pc k = let e : c ≡ c + 0 = omega arith in record { answers = λ n. idle; few = λ n. omega arith; count = 0; run = ap (λ t. Some (board s pc t)) e; bound = omega arith; keeps = k }
+  pub here : (c : ℕ) (s : Run) (pc : ℕ) → Keeps kept first s → Follows (board s pc c) c s.steps s pc
+  here c s pc k = let e : c ≡ c + 0 = omega arith in record { answers = λ n. idle; few = λ n. omega arith; count = 0; run = ap (λ t. Some (board s pc t)) e; exact = omega arith; keeps = k }
 
-  after_words : (k c n m : ℕ) (x y : Board) (e : Run) (to : ℕ) → Always k x y → n + k ≤ m → Follows y (c + k) m e to → Follows x c n e to
-  after_words k c n m x y e to move less q =
+  after_words : (k c n m : ℕ) (x y : Board) (e : Run) (to : ℕ) → Always k x y → n + k ≡ m → Follows y (c + k) m e to → Follows x c n e to
+  after_words k c n m x y e to move more q =
       let t : c + k + q.count ≡ c + (k + q.count) = omega arith in
       record {
         answers = q.answers;
         few = q.few;
         count = k + q.count;
         run = moves_on kept q.answers first k q.count x y _ (move q.answers) q.run ∙ ap (λ d. Some (board e to d)) t;
-        bound = omega (arith, less, q.bound);
+        exact = omega (arith, more, q.exact);
         keeps = q.keeps;
       }
 
   -- one word, by its answer
-  after_one : (c n m : ℕ) (x : Board) (y : Bus → Board) (b : Bus) (e : Run) (to : ℕ) → x.clock ≡ c → b.value < 2 ^ 32 → ((bus : ℕ → Bus) → Moves kept bus first 1 x (y (bus c))) → (y b).clock ≡ c + 1 → n + 1 ≤ m → Follows (y b) (c + 1) m e to → Follows x c n e to
-  after_one c n m x y b e to clock small move clock' less q =
+  after_one : (c n : ℕ) (x : Board) (y : Bus → Board) (b : Bus) (e : Run) (to : ℕ) → x.clock ≡ c → b.value < 2 ^ 32 → ((bus : ℕ → Bus) → Moves kept bus first 1 x (y (bus c))) → (y b).clock ≡ c + 1 → Follows (y b) (c + 1) (suc n) e to → Follows x c n e to
+  after_one c n x y b e to clock small move clock' q =
       let bus : ℕ → Bus = before (c + 1) (λ k. b) q.answers in
       let same : bus c ≡ b = before_low (c + 1) (λ k. b) q.answers c (omega arith) in
       let t : c + 1 + q.count ≡ c + (1 + q.count) = omega arith in
@@ -100,13 +100,13 @@ module _ (kept : ℕ → Bool) (first : Memory) where
         run = moves_on kept bus first 1 q.count x (y b) _ (move bus ∙ ap (λ u. Some (y u)) same)
             (agree q.count (y b) bus q.answers (λ k l m. before_high (c + 1) (λ k. b) q.answers k (omega (arith, clock'))) ∙ q.run)
             ∙ ap (λ d. Some (board e to d)) t;
-        bound = omega (arith, less, q.bound);
+        exact = omega (arith, q.exact);
         keeps = q.keeps;
       }
 
-  -- one part after another; g is what the first leaves over for the second
-  then_words : (c n v g : ℕ) (x : Board) (m : Run) (b : ℕ) (e : Run) (to : ℕ) → x.clock ≡ c → (p : Follows x c (n + g) m b) → 4 * m.passed ≤ v + g → Follows (board m b (c + p.count)) (c + p.count) v e to → Follows x c n e to
-  then_words c n v g x m b e to clock p less q =
+  -- one part after another
+  then_words : (c n : ℕ) (x : Board) (m : Run) (b : ℕ) (e : Run) (to : ℕ) → x.clock ≡ c → (p : Follows x c n m b) → Follows (board m b (c + p.count)) (c + p.count) m.steps e to → Follows x c n e to
+  then_words c n x m b e to clock p q =
       let bus : ℕ → Bus = before (c + p.count) p.answers q.answers in
       let t : c + p.count + q.count ≡ c + (p.count + q.count) = omega arith in
       record {
@@ -117,26 +117,23 @@ module _ (kept : ℕ → Bool) (first : Memory) where
             (agree p.count x bus p.answers (λ k l h. before_low (c + p.count) p.answers q.answers k (omega (arith, clock))) ∙ p.run)
             (agree q.count (board m b (c + p.count)) bus q.answers (λ k l h. before_high (c + p.count) p.answers q.answers k l) ∙ q.run)
             ∙ ap (λ d. Some (board e to d)) t;
-        bound = omega (arith, p.bound, q.bound, less);
+        exact = omega (arith, p.exact, q.exact);
         keeps = q.keeps;
       }
 
   -- ---- endings
 
-  pub words_come : (k c n m : ℕ) (x y : Board) (end : ℕ) (e : Ending) → Always k x y → n + k ≤ m → Comes y (c + k) m end e → Comes x c n end e
-  words_come k c n m x y end (Falls e) move less q = after_words k c n m x y e end move less q
-  words_come k c n m x y end (Goes to e) move less q = after_words k c n m x y e to move less q
+  pub words_come : (k c n m : ℕ) (x y : Board) (end : ℕ) (e : Ending) → Always k x y → n + k ≡ m → Comes y (c + k) m end e → Comes x c n end e
+  words_come k c n m x y end (Falls e) move more q = after_words k c n m x y e end move more q
+  words_come k c n m x y end (Goes to e) move more q = after_words k c n m x y e to move more q
 
-  pub one_comes : (c n m : ℕ) (x : Board) (y : Bus → Board) (b : Bus) (end : ℕ) (e : Ending) → x.clock ≡ c → b.value < 2 ^ 32 → ((bus : ℕ → Bus) → Moves kept bus first 1 x (y (bus c))) → (y b).clock ≡ c + 1 → n + 1 ≤ m → Comes (y b) (c + 1) m end e → Comes x c n end e
-  one_comes c n m x y b end (Falls e) clock small move clock' less q = after_one c n m x y b e end clock small move clock' less q
-  one_comes c n m x y b end (Goes to e) clock small move clock' less q = after_one c n m x y b e to clock small move clock' less q
+  pub one_comes : (c n : ℕ) (x : Board) (y : Bus → Board) (b : Bus) (end : ℕ) (e : Ending) → x.clock ≡ c → b.value < 2 ^ 32 → ((bus : ℕ → Bus) → Moves kept bus first 1 x (y (bus c))) → (y b).clock ≡ c + 1 → Comes (y b) (c + 1) (suc n) end e → Comes x c n end e
+  one_comes c n x y b end (Falls e) clock small move clock' q = after_one c n x y b e end clock small move clock' q
+  one_comes c n x y b end (Goes to e) clock small move clock' q = after_one c n x y b e to clock small move clock' q
 
-  pub then_come : (c n v g : ℕ) (x : Board) (m : Run) (b end : ℕ) (e : Ending) → x.clock ≡ c → Follows x c (n + g) m b → 4 * m.passed ≤ v + g → ((d : ℕ) → Comes (board m b d) d v end e) → Comes x c n end e
-  then_come c n v g x m b end (Falls e) clock p less q = then_words c n v g x m b e end clock p less (q (c + p.count))
-  then_come c n v g x m b end (Goes to e) clock p less q = then_words c n v g x m b e to clock p less (q (c + p.count))
-
-  pub fewer : (c n m : ℕ) (x : Board) (e : Run) (to : ℕ) → n ≤ m → Follows x c m e to → Follows x c n e to
-  fewer c n m x e to h q = record { answers = q.answers; few = q.few; count = q.count; run = q.run; bound = omega (arith, h, q.bound); keeps = q.keeps }
+  pub then_come : (c n : ℕ) (x : Board) (m : Run) (b end : ℕ) (e : Ending) → x.clock ≡ c → Follows x c n m b → ((d : ℕ) → Comes (board m b d) d m.steps end e) → Comes x c n end e
+  then_come c n x m b end (Falls e) clock p q = then_words c n x m b e end clock p (q (c + p.count))
+  then_come c n x m b end (Goes to e) clock p q = then_words c n x m b e to clock p (q (c + p.count))
 
   pub ends_come : (c n : ℕ) (x : Board) (end end' : ℕ) (e : Ending) → end ≡ end' → Comes x c n end e → Comes x c n end' e
   ends_come c n x end end' e f q = subst (λ t. Comes x c n t e) f q
@@ -146,51 +143,50 @@ module _ (kept : ℕ → Bool) (first : Memory) where
       let g : raw ≡ s.regs = sym (ap (settled raw) none) ∙ f in
       subst (λ x. Comes x c n end e) (sym (λ j. standing (pending_at s (g j) (none j) at) s.seen c)) q
 
-  pub same_keeps : (s : Run) → Keeps kept first s → Keeps kept first (passing s)
-  same_keeps s k = record { bytes = k.bytes; masked = k.masked }
+  pub pass_keeps : (s : Run) → Keeps kept first s → Keeps kept first (passing s)
+  pass_keeps s k = record { bytes = k.bytes; masked = k.masked }
+
+  pub branch_keeps : (s : Run) → Keeps kept first s → Keeps kept first (branching s)
+  branch_keeps s k = record { bytes = k.bytes; masked = k.masked }
 
   pub link_keeps : (s : Run) (back : ℕ) → Keeps kept first s → Keeps kept first (linking s back)
   link_keeps s back k = record { bytes = k.bytes; masked = k.masked }
 
-  -- a part, and what follows it unless the part jumps; k words lead over to it, and the node before the part has room for them
-  pub part_comes : (A B : Run → Ending → Type 0) (k c n : ℕ) (s : Run) (at mid to end : ℕ) (e : Ending) → Keeps kept first s → n + k ≤ 4 * s.passed → k ≤ 4
-      → ((x : Ending) → A s x → Comes (board s at c) c (4 * s.passed) mid x)
-      → ((d : ℕ) (m : Run) → Keeps kept first m → Always k (board m mid d) (board m to (d + k)))
-      → ((d : ℕ) (m : Run) (x : Ending) → Keeps kept first m → B m x → Comes (board m to d) d (4 * m.passed) end x)
-      → Then A B s e → Comes (board s at c) c n end e
-  part_comes A B k c n s at mid to end e ks less small part over rest h =
+  -- a part, and what follows it unless the part jumps; k words lead over to it, and the run from m to `next m`
+  pub part_comes : (A B : Run → Ending → Type 0) (next : Run → Run) (k c : ℕ) (s : Run) (at mid to end : ℕ) (e : Ending)
+      → ((m : Run) → (m.steps + k ≡ (next m).steps) × (Keeps kept first m → Keeps kept first (next m)))
+      → ((x : Ending) → A s x → Comes (board s at c) c s.steps mid x)
+      → ((d : ℕ) (m : Run) → Keeps kept first m → Always k (board m mid d) (board (next m) to (d + k)))
+      → ((d : ℕ) (m : Run) (x : Ending) → Keeps kept first m → B m x → Comes (board m to d) d m.steps end x)
+      → Then A (λ m. B (next m)) s e → Comes (board s at c) c s.steps end e
+  part_comes A B next k c s at mid to end e step part over rest h =
       ⊎_elim
-      (λ t. let p : Follows (board s at c) c (4 * s.passed) t.0 mid = part (Falls t.0) t.1 in
-      then_come c n (4 * t.0.passed - k) k (board s at c) t.0 mid end e refl (fewer c (n + k) (4 * s.passed) (board s at c) t.0 mid less p) (omega arith)
-      (λ d. words_come k d (4 * t.0.passed - k) (4 * t.0.passed) (board t.0 mid d) (board t.0 to (d + k)) end e (over d t.0 p.keeps) (left t.0 p.count p.bound) (rest (d + k) t.0 e p.keeps t.2)))
-      (λ j. let q : Follows (board s at c) c (4 * s.passed) j.1 j.0 = part (Goes j.0 j.1) j.2 in
-      subst (λ x. Comes (board s at c) c n end x) (sym j.3) (fewer c n (4 * s.passed) (board s at c) j.1 j.0 (omega (arith, less)) q))
+      (λ t. let p : Follows (board s at c) c s.steps t.0 mid = part (Falls t.0) t.1 in
+      then_come c s.steps (board s at c) t.0 mid end e refl p
+      (λ d. words_come k d t.0.steps (next t.0).steps (board t.0 mid d) (board (next t.0) to (d + k)) end e (over d t.0 p.keeps) (step t.0).0 (rest (d + k) (next t.0) e ((step t.0).1 p.keeps) t.2)))
+      (λ j. subst (λ x. Comes (board s at c) c s.steps end x) (sym j.3) (part (Goes j.0 j.1) j.2))
       h
-    where
-      left : (m : Run) (q : ℕ) → q + 4 * s.passed ≤ 4 * m.passed → 4 * m.passed - k + k ≤ 4 * m.passed
-      left m q b = omega arith
 
-  pub turns_come : (n k c w : ℕ) (t : Test) (a : Tree) (at to end : ℕ) (x : Board) (s : Run) (e : Ending) (A B : Run → Ending → Type 0)
-      → ((d : ℕ) (m : Run) (y : Ending) → Keeps kept first m → A m y → Comes (board m (at + 8) d) d (4 * m.passed) (at + (8 + 4 * size a)) y)
-      → ((d : ℕ) (m : Run) (y : Ending) → Keeps kept first m → B m y → Comes (board m to d) d (4 * m.passed) end y)
+  -- no words lead over, or those of a branch
+  pub none_over : (m : Run) → (m.steps + 0 ≡ m.steps) × (Keeps kept first m → Keeps kept first m)
+  none_over m = (omega arith, λ k. k)
+
+  pub branch_over : (m : Run) → (m.steps + 2 ≡ (branching m).steps) × (Keeps kept first m → Keeps kept first (branching m))
+  branch_over m = (omega arith, branch_keeps m)
+
+  pub turns_come : (n c : ℕ) (t : Test) (a : Tree) (at to end : ℕ) (s : Run) (e : Ending) (A B : Run → Ending → Type 0)
+      → ((d : ℕ) (m : Run) (y : Ending) → Keeps kept first m → A m y → Comes (board m (at + 8) d) d m.steps (at + (8 + 4 * size a)) y)
+      → ((d : ℕ) (m : Run) (y : Ending) → Keeps kept first m → B m y → Comes (board m to d) d m.steps end y)
       → ((d : ℕ) (m : Run) → Keeps kept first m → Holds t m.regs → Always 2 (board m at d) (board m (at + 8) (d + 2)))
       → ((d : ℕ) (m : Run) → Keeps kept first m → Holds (opposite t) m.regs → Always 2 (board m at d) (board m to (d + 2)))
       → ((d : ℕ) (m : Run) → Keeps kept first m → Always 2 (board m (at + (8 + 4 * size a)) d) (board m at (d + 2)))
-      → x.clock ≡ c → k ≤ 2 → w ≤ 4 * s.passed → Keeps kept first s → Always k x (board s at (c + k)) → TurnsOf n t A B s e → Comes x c w end e
-  turns_come zero k c w t a at to end x s e A B body rest into past back clock small less ks run h = absurd h
-  turns_come (suc n) k c w t a at to end x s e A B body rest into past back clock small less ks run h =
-      let e2 : c + k + 2 ≡ c + (k + 2) = omega arith in
+      → Keeps kept first s → TurnsOf n t A B s e → Comes (board s at c) c s.steps end e
+  turns_come zero c t a at to end s e A B body rest into past back ks h = absurd h
+  turns_come (suc n) c t a at to end s e A B body rest into past back ks h =
       ⊎_elim
-      (λ y. words_come (k + 2) c w (4 * suc s.passed) x (board (passing s) to (c + (k + 2))) end e
-      (λ bus. moves_on kept bus first k 2 x (board s at (c + k)) _ (run bus) (past (c + k) s ks y.0 bus) ∙ ap (λ d. Some (board s to d)) e2) (omega arith)
-      (rest (c + (k + 2)) (passing s) e (same_keeps s ks) y.1))
-      (λ y. words_come (k + 2) c w (4 * suc s.passed) x (board (passing s) (at + 8) (c + (k + 2))) end e
-      (λ bus. moves_on kept bus first k 2 x (board s at (c + k)) _ (run bus) (into (c + k) s ks y.0 bus) ∙ ap (λ d. Some (board s (at + 8) d)) e2) (omega arith)
-      (⊎_elim
-      (λ u. let p : Follows (board (passing s) (at + 8) (c + (k + 2))) (c + (k + 2)) (4 * suc s.passed) u.0 (at + (8 + 4 * size a)) = body (c + (k + 2)) (passing s) (Falls u.0) (same_keeps s ks) u.1 in
-      then_come (c + (k + 2)) (4 * suc s.passed) (4 * u.0.passed) 0 (board (passing s) (at + 8) (c + (k + 2))) u.0 (at + (8 + 4 * size a)) end e refl (fewer _ (4 * suc s.passed + 0) (4 * suc s.passed) _ u.0 _ (omega arith) p) (omega arith)
-      (λ d. turns_come n 2 d (4 * u.0.passed) t a at to end (board u.0 (at + (8 + 4 * size a)) d) u.0 e A B body rest into past back refl (omega arith) (omega arith) p.keeps (back d u.0 p.keeps) u.2))
-      (λ j. let q : Follows (board (passing s) (at + 8) (c + (k + 2))) (c + (k + 2)) (4 * suc s.passed) j.1 j.0 = body (c + (k + 2)) (passing s) (Goes j.0 j.1) (same_keeps s ks) j.2 in
-      subst (λ v. Comes (board (passing s) (at + 8) (c + (k + 2))) (c + (k + 2)) (4 * suc s.passed) end v) (sym j.3) q)
-      y.1))
+      (λ y. words_come 2 c s.steps (passing s).steps (board s at c) (board (passing s) to (c + 2)) end e (past c s ks y.0) (omega arith) (rest (c + 2) (passing s) e (pass_keeps s ks) y.1))
+      (λ y. words_come 2 c s.steps (passing s).steps (board s at c) (board (passing s) (at + 8) (c + 2)) end e (into c s ks y.0) (omega arith)
+      (part_comes A (TurnsOf n t A B) branching 2 (c + 2) (passing s) (at + 8) (at + (8 + 4 * size a)) at end e branch_over
+      (λ x k. body (c + 2) (passing s) x (pass_keeps s ks) k) back
+      (λ d m x km k. turns_come n d t a at to end m x A B body rest into past back km k) y.1))
       h

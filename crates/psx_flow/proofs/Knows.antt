@@ -1,5 +1,5 @@
 -- What a routine takes of the listings of `tested` that it calls, wherever they stand.
-use Rattle.psx_flow.proofs.Kit.{◌≡◌, ℕ, ◌^◌, ◌<◌, List, [], ◌∷◌, false, refl, sym, subst, Memory, Registers, Cop0, Goal, Calls, calls, Access, Run, Tree, Meets, Fair, fair, Part, Anew, Calling, run, Entry, kernel_words}
+use Rattle.psx_flow.proofs.Kit.{◌≡◌, ℕ, ◌^◌, ◌<◌, List, [], ◌∷◌, false, refl, sym, subst, Memory, Registers, Cop0, Goal, Calls, calls, Access, Run, Tree, Meets, Fair, fair, Part, Anew, Calling, Count, run, Entry, kernel_words}
 use Rattle.std.proofs.Common.{cond, eq-eqb}
 use Rattle.std.specs.Prelude.{nat_eq}
 use Rattle.psx_flow.specs.declared.kinds.Tested.TheVariants.{ReadByte, WriteByte, ReadWord, WriteWord}
@@ -27,10 +27,10 @@ tested_at P = (P.read_byte, tree ReadByte) ∷ (P.write_byte, tree WriteByte) �
 
 pub record Knows (P : Places) (C : Calls) : Type 1 where
   pub fair : Fair C
-  pub read_byte : (k : Part) (c : Registers) (z : Cop0) (m : Memory) (w : List Entry) (q : List Access) (p : ℕ) → c.r8 < 2 ^ 32 → ReadsByte k c z m w q p → Calling C P.read_byte c.r31 k c z m w q p
-  pub write_byte : (k : Part) (c : Registers) (z : Cop0) (m : Memory) (w : List Entry) (q : List Access) (p : ℕ) → c.r8 < 2 ^ 32 → WritesByte k c z m w q p → Calling C P.write_byte c.r31 k c z m w q p
-  pub read_word : (k : Part) (c : Registers) (z : Cop0) (m : Memory) (w : List Entry) (q : List Access) (p : ℕ) → c.r8 < 2 ^ 32 → ReadsWord k c z m w q p → Calling C P.read_word c.r31 k c z m w q p
-  pub write_word : (k : Part) (c : Registers) (z : Cop0) (m : Memory) (w : List Entry) (q : List Access) (p : ℕ) → c.r8 < 2 ^ 32 → WritesWord k c z m w q p → Calling C P.write_word c.r31 k c z m w q p
+  pub read_byte : (k : Part) (c : Registers) (z : Cop0) (m : Memory) (w : List Entry) (q : List Access) (p : Count) → c.r8 < 2 ^ 32 → ReadsByte k c z m w q p → Calling C P.read_byte c.r31 k c z m w q p
+  pub write_byte : (k : Part) (c : Registers) (z : Cop0) (m : Memory) (w : List Entry) (q : List Access) (p : Count) → c.r8 < 2 ^ 32 → WritesByte k c z m w q p → Calling C P.write_byte c.r31 k c z m w q p
+  pub read_word : (k : Part) (c : Registers) (z : Cop0) (m : Memory) (w : List Entry) (q : List Access) (p : Count) → c.r8 < 2 ^ 32 → ReadsWord k c z m w q p → Calling C P.read_word c.r31 k c z m w q p
+  pub write_word : (k : Part) (c : Registers) (z : Cop0) (m : Memory) (w : List Entry) (q : List Access) (p : Count) → c.r8 < 2 ^ 32 → WritesWord k c z m w q p → Calling C P.write_word c.r31 k c z m w q p
 
 -- a call of the first listing, and of one behind it
 pub first_call : (a : ℕ) (T : Tree) (ls : List (ℕ × Tree)) (back : ℕ) (K : Goal) (s : Run) → Meets kernel_words (calls kernel_words ls) T a (λ _. ⊥) (λ b m. (b ≡ back) × K m) s → calls kernel_words ((a, T) ∷ ls) a back K s

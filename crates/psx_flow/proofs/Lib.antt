@@ -22,6 +22,7 @@ pub mod Users
 pub mod Accesses
 pub mod Serves
 pub mod Settling
+pub mod Counts
 pub mod Following
 pub mod Follow
 pub mod TestedTrees

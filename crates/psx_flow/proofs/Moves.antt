@@ -1,5 +1,5 @@
 -- Some words of a listing, run: a board goes from one place to another.
-use Rattle.std.proofs.Common.{◌≡◌, ℕ, zero, suc, ◌+◌, ◌*◌, ◌%◌, ◌^◌, ◌<◌, ◌≤◌, List, [], ◌∷◌, ◌++◌, length, length-append, Bool, true, false, Option, Some, None, refl, sym, ap, ◌∙◌, subst, arith}
+use Rattle.std.proofs.Common.{◌≡◌, ℕ, zero, suc, ◌+◌, ◌*◌, ◌%◌, ◌^◌, ◌<◌, List, [], ◌∷◌, ◌++◌, length, length-append, Bool, true, false, Option, Some, None, refl, sym, ap, ◌∙◌, subst, arith}
 use Rattle.std.specs.Prelude.{◌||◌, not}
 use Rattle.std.proofs.lemmas.Bool.{false≢true}
 use Rattle.psx_ins.specs.declared.ins.Ins.{Ins}
@@ -22,7 +22,7 @@ use Rattle.psx_flow.specs.Lowered.{opposite, nop, always, branch, distance, code
 use Rattle.psx_flow.specs.Run.{Run, Access, accessed, state_at, done}
 use Rattle.psx_flow.specs.Meets.{Holds}
 use Rattle.psx_flow.specs.Plain.{Board, plain_step, on, steps, board}
-use Rattle.psx_flow.specs.Reaches.{Keeps, Reaches}
+use Rattle.psx_flow.specs.Reaches.{Keeps}
 use Rattle.psx_flow.proofs.Delay.{delayed, delayed_trap, delayed_access, neither}
 use Rattle.psx_flow.proofs.Step.{LiesAs, StandsAs, both, fetched, standing, step_is}
 use Rattle.psx_flow.proofs.Room.{clear}
@@ -115,14 +115,24 @@ module _ (kept : ℕ → Bool) (bus : ℕ → Bus) (first : Memory) where
   pub moves_on : (k n : ℕ) (x y z : Board) → Moves k x y → Moves n y z → Moves (k + n) x z
   moves_on k n x y z h g = steps_more k n x y h ∙ g
 
+  -- From a board of count c, in a state s of a run, the steps come to a state and an address for which Z holds, in exactly the steps that the run makes from there on.
+  pub record Leads (start : Board) (c : ℕ) (s : Run) (Z : Run → ℕ → Type 0) : Type 0 where
+    pub count : ℕ
+    pub after : Run
+    pub to : ℕ
+    pub run : steps bus count start ≡ Some (board after to (c + count))
+    pub exact : count + s.steps ≡ after.steps
+    pub keeps : Keeps kept first after
+    pub holds : Z after to
+
   abbrev pub From : ℕ → Run → ℕ → (Run → ℕ → Type 0) → Type 0
-  From c s pc Z = Reaches kept bus first (board s pc c) c s.passed Z
+  From c s pc Z = Leads (board s pc c) c s Z
 
   pub reach_here : (c : ℕ) (s : Run) (pc : ℕ) (Z : Run → ℕ → Type 0) → Keeps kept first s → Z s pc → From c s pc Z
-  reach_here c s pc Z k z = let e : c ≡ c + 0 = omega arith in record { count = 0; after = s; to = pc; run = ap (λ t. Some (board s pc t)) e; bound = omega arith; keeps = k; holds = z }
+  reach_here c s pc Z k z = let e : c ≡ c + 0 = omega arith in record { count = 0; after = s; to = pc; run = ap (λ t. Some (board s pc t)) e; exact = omega arith; keeps = k; holds = z }
 
-  pub reach_then : (x : Board) (c n : ℕ) (Y Z : Run → ℕ → Type 0) → Reaches kept bus first x c n Y → ((d : ℕ) (e : Run) (b : ℕ) → Keeps kept first e → Y e b → From d e b Z) → Reaches kept bus first x c n Z
-  reach_then x c n Y Z r f =
+  pub reach_then : (x : Board) (c : ℕ) (s : Run) (Y Z : Run → ℕ → Type 0) → Leads x c s Y → ((d : ℕ) (e : Run) (b : ℕ) → Keeps kept first e → Y e b → From d e b Z) → Leads x c s Z
+  reach_then x c s Y Z r f =
       let q = f (c + r.count) r.after r.to r.keeps r.holds in
       let t : c + r.count + q.count ≡ c + (r.count + q.count) = omega arith in
       record {
@@ -130,31 +140,31 @@ module _ (kept : ℕ → Bool) (bus : ℕ → Bus) (first : Memory) where
         after = q.after;
         to = q.to;
         run = moves_on r.count q.count x (board r.after r.to (c + r.count)) _ r.run q.run ∙ ap (λ t. Some (board q.after q.to t)) t;
-        bound = omega (arith, r.bound, q.bound);
+        exact = omega (arith, r.exact, q.exact);
         keeps = q.keeps;
         holds = q.holds;
       }
 
-  -- up to four words that pass a node
-  pub reach_after : (k c n m : ℕ) (x y : Board) (Z : Run → ℕ → Type 0) → k ≤ 4 → Moves k x y → m ≡ suc n → Reaches kept bus first y (c + k) m Z → Reaches kept bus first x c n Z
-  reach_after k c n m x y Z few run p q =
+  -- some words, by which the run comes from s to e
+  pub reach_after : (k c : ℕ) (s e : Run) (x y : Board) (Z : Run → ℕ → Type 0) → Moves k x y → k + s.steps ≡ e.steps → Leads y (c + k) e Z → Leads x c s Z
+  reach_after k c s e x y Z run few q =
       let t : c + k + q.count ≡ c + (k + q.count) = omega arith in
       record {
         count = k + q.count;
         after = q.after;
         to = q.to;
         run = moves_on k q.count x y _ run q.run ∙ ap (λ t. Some (board q.after q.to t)) t;
-        bound = omega (arith, few, p, q.bound);
+        exact = omega (arith, few, q.exact);
         keeps = q.keeps;
         holds = q.holds;
       }
 
   -- nothing is pending: the run's own board
   pub at_rest : (s : Run) (raw : Registers) (p : Option (ℕ × ℕ)) (at c : ℕ) (Z : Run → ℕ → Type 0) → settled raw p ≡ s.regs → p ≡ None → From c s at Z
-      → Reaches kept bus first (standing (pending_at s raw p at) s.seen c) c s.passed Z
+      → Leads (standing (pending_at s raw p at) s.seen c) c s Z
   at_rest s raw p at c Z e n r =
       let f : raw ≡ s.regs = sym (ap (settled raw) n) ∙ e in
-      subst (λ x. Reaches kept bus first x c s.passed Z) (sym (λ j. standing (pending_at s (f j) (n j) at) s.seen c)) r
+      subst (λ x. Leads x c s Z) (sym (λ j. standing (pending_at s (f j) (n j) at) s.seen c)) r
 
   next_clock : (y : State) (q : List Access) (c : ℕ) → Some (standing y q (suc c)) ≡ Some (standing y q (c + 1))
   next_clock y q c = let e : suc c ≡ c + 1 = omega arith in ap (λ t. Some (standing y q t)) e

@@ -8,7 +8,7 @@ use Rattle.psx_flow.specs.declared.node.Test.TheVariants.{Same, Differ, NotAbove
 use Rattle.psx_flow.specs.Tree.{Tree, Stop, Do, When, Choose, Loop, Visit, Go, GoTo}
 use Rattle.psx_flow.specs.Lowered.{opposite}
 use Rattle.psx_flow.specs.Run.{Run, done}
-use Rattle.psx_flow.specs.Meets.{Holds, Goal, Calls, Turns, Meets, calls}
+use Rattle.psx_flow.specs.Meets.{Holds, branching, Goal, Calls, Turns, Meets, calls}
 
 not_above : (v : ℕ) → ((v ≡ 0) ⊎ (2 ^ 31 ≤ v)) ⊎ ((0 < v) × (v < 2 ^ 31))
 not_above v = ⊎_elim (λ lt. ⊎_elim (λ e. inl (inl e)) (λ ne. inr (omega arith, lt)) (cases_eq v 0)) (λ ge. inl (inr ge)) (cases_lt v (2 ^ 31))
@@ -28,7 +28,7 @@ pub record Fair (C : Calls) : Type 1 where
 
 turns_mono : (t : Test) (b c : Goal → Goal) → ((K L : Goal) (s : Run) → ((m : Run) → K m → L m) → b K s → c L s) → (n : ℕ) (K L : Goal) (s : Run) → ((m : Run) → K m → L m) → Turns n t b K s → Turns n t c L s
 turns_mono t b c mono zero K L s f h = h
-turns_mono t b c mono (suc n) K L s f h = (λ e. f _ (h.0 e), λ e. mono _ _ _ (λ m. turns_mono t b c mono n K L m f) (h.1 e))
+turns_mono t b c mono (suc n) K L s f h = (λ e. f _ (h.0 e), λ e. mono _ _ _ (λ m. turns_mono t b c mono n K L (branching m) f) (h.1 e))
 
 cond_map : (b : Bool) (P Q R S : Type 0) → (P → R) → (Q → S) → cond b P Q → cond b R S
 cond_map true P Q R S f g h = f h
@@ -41,7 +41,7 @@ module _ (kept : ℕ → Bool) where
   meets_mono C fair (When t a r) at K L G H s f g h =
       (λ e. meets_mono C fair a _ _ _ G H _ (λ m. meets_mono C fair r _ K L G H m f g) g (h.0 e), λ e. meets_mono C fair r _ K L G H _ f g (h.1 e))
   meets_mono C fair (Choose t a b r) at K L G H s f g h =
-      (λ e. meets_mono C fair a _ _ _ G H _ (λ m. meets_mono C fair r _ K L G H m f g) g (h.0 e), λ e. meets_mono C fair b _ _ _ G H _ (λ m. meets_mono C fair r _ K L G H m f g) g (h.1 e))
+      (λ e. meets_mono C fair a _ _ _ G H _ (λ m. meets_mono C fair r _ K L G H (branching m) f g) g (h.0 e), λ e. meets_mono C fair b _ _ _ G H _ (λ m. meets_mono C fair r _ K L G H m f g) g (h.1 e))
   meets_mono C fair (Loop t a r) at K L G H s f g h = (h.0, turns_mono t _ _ (λ K' L' m f'. meets_mono C fair a _ K' L' G H m f' g) h.0 _ _ s (λ m. meets_mono C fair r _ K L G H m f g) h.1)
   meets_mono C fair (Visit a r) at K L G H s f g h = fair.mono a _ _ _ _ (λ m. meets_mono C fair r _ K L G H m f g) h
   meets_mono C fair (Go a r) at K L G H s f g h = g a _ h

@@ -1,5 +1,5 @@
 -- Each listing of `tested` does what is written of it.
-use Rattle.psx_flow.proofs.Kit.{ℕ, [], refl, sym, ◌∙◌, subst, arith, Run, Meets, calls, kernel_words, Part, run, fair}
+use Rattle.psx_flow.proofs.Kit.{ℕ, [], refl, sym, ◌∙◌, subst, arith, Run, Meets, calls, kernel_words, Part, counted, run, fair}
 use Rattle.std.proofs.lemmas.Bool.{false≢true}
 use Rattle.psx_flow.specs.declared.kinds.Tested.{Tested}
 use Rattle.psx_flow.specs.declared.kinds.Tested.TheVariants.{ReadByte, WriteByte, ReadWord, WriteWord}
@@ -20,22 +20,22 @@ arrives kind at s h =
 
 pub serves : (kind : Tested) → Serves kind (tree kind)
 serves ReadByte at s small =
-    arrives ReadByte at s (reads_byte (calls kernel_words []) (fair kernel_words []) (Behind ReadByte s) at s.regs s.cop0 s.bytes [] s.seen s.passed small tt record {
-      good = λ u x y. record { back = refl; made = λ _. record { regs = refl; bytes = refl; seen = refl }; refused = λ f. absurd (false≢true (sym f ∙ u)); cop0 = refl; within = omega arith };
-      bad = λ u x y. record { back = refl; made = λ g. absurd (false≢true (sym u ∙ g)); refused = λ _. record { regs = refl; bytes = refl; seen = refl }; cop0 = refl; within = omega arith };
+    arrives ReadByte at s (reads_byte (calls kernel_words []) (fair kernel_words []) (Behind ReadByte s) at s.regs s.cop0 s.bytes [] s.seen (counted s) small tt record {
+      good = λ u x y. record { back = refl; made = λ _. record { regs = refl; bytes = refl; seen = refl }; refused = λ f. absurd (false≢true (sym f ∙ u)); cop0 = refl; within = omega arith; steps = omega arith };
+      bad = λ u x y. record { back = refl; made = λ g. absurd (false≢true (sym u ∙ g)); refused = λ _. record { regs = refl; bytes = refl; seen = refl }; cop0 = refl; within = omega arith; steps = omega arith };
     })
 serves WriteByte at s small =
-    arrives WriteByte at s (writes_byte (calls kernel_words []) (fair kernel_words []) (Behind WriteByte s) at s.regs s.cop0 s.bytes [] s.seen s.passed small tt record {
-      good = λ u x y. record { back = refl; made = λ _. record { regs = refl; bytes = refl; seen = refl }; refused = λ f. absurd (false≢true (sym f ∙ u)); cop0 = refl; within = omega arith };
-      bad = λ u x y. record { back = refl; made = λ g. absurd (false≢true (sym u ∙ g)); refused = λ _. record { regs = refl; bytes = refl; seen = refl }; cop0 = refl; within = omega arith };
+    arrives WriteByte at s (writes_byte (calls kernel_words []) (fair kernel_words []) (Behind WriteByte s) at s.regs s.cop0 s.bytes [] s.seen (counted s) small tt record {
+      good = λ u x y. record { back = refl; made = λ _. record { regs = refl; bytes = refl; seen = refl }; refused = λ f. absurd (false≢true (sym f ∙ u)); cop0 = refl; within = omega arith; steps = omega arith };
+      bad = λ u x y. record { back = refl; made = λ g. absurd (false≢true (sym u ∙ g)); refused = λ _. record { regs = refl; bytes = refl; seen = refl }; cop0 = refl; within = omega arith; steps = omega arith };
     })
 serves ReadWord at s small =
-    arrives ReadWord at s (reads_word (calls kernel_words []) (fair kernel_words []) (Behind ReadWord s) at s.regs s.cop0 s.bytes [] s.seen s.passed small tt record {
-      good = λ u x y. record { back = refl; made = λ _. record { regs = refl; bytes = refl; seen = refl }; refused = λ f. absurd (false≢true (sym f ∙ u)); cop0 = refl; within = omega arith };
-      bad = λ u x y. record { back = refl; made = λ g. absurd (false≢true (sym u ∙ g)); refused = λ _. record { regs = refl; bytes = refl; seen = refl }; cop0 = refl; within = omega arith };
+    arrives ReadWord at s (reads_word (calls kernel_words []) (fair kernel_words []) (Behind ReadWord s) at s.regs s.cop0 s.bytes [] s.seen (counted s) small tt record {
+      good = λ u x y. record { back = refl; made = λ _. record { regs = refl; bytes = refl; seen = refl }; refused = λ f. absurd (false≢true (sym f ∙ u)); cop0 = refl; within = omega arith; steps = omega arith };
+      bad = λ u x y. record { back = refl; made = λ g. absurd (false≢true (sym u ∙ g)); refused = λ _. record { regs = refl; bytes = refl; seen = refl }; cop0 = refl; within = omega arith; steps = omega arith };
     })
 serves WriteWord at s small =
-    arrives WriteWord at s (writes_word (calls kernel_words []) (fair kernel_words []) (Behind WriteWord s) at s.regs s.cop0 s.bytes [] s.seen s.passed small tt record {
-      good = λ u x y. record { back = refl; made = λ _. record { regs = refl; bytes = refl; seen = refl }; refused = λ f. absurd (false≢true (sym f ∙ u)); cop0 = refl; within = omega arith };
-      bad = λ u x y. record { back = refl; made = λ g. absurd (false≢true (sym u ∙ g)); refused = λ _. record { regs = refl; bytes = refl; seen = refl }; cop0 = refl; within = omega arith };
+    arrives WriteWord at s (writes_word (calls kernel_words []) (fair kernel_words []) (Behind WriteWord s) at s.regs s.cop0 s.bytes [] s.seen (counted s) small tt record {
+      good = λ u x y. record { back = refl; made = λ _. record { regs = refl; bytes = refl; seen = refl }; refused = λ f. absurd (false≢true (sym f ∙ u)); cop0 = refl; within = omega arith; steps = omega arith };
+      bad = λ u x y. record { back = refl; made = λ g. absurd (false≢true (sym u ∙ g)); refused = λ _. record { regs = refl; bytes = refl; seen = refl }; cop0 = refl; within = omega arith; steps = omega arith };
     })

@@ -24,8 +24,26 @@ use Rattle.psx_flow.proofs.Log.{Sort, Nowhere, Code, Kernel, User, Port, word_so
 abbrev pub Next : Type 1
 Next = Registers → Cop0 → List Entry → List Access → Type 0
 
-abbrev pub run : Registers → Cop0 → Memory → List Entry → List Access → ℕ → Run
-run c z m w q p = record { regs = c; cop0 = z; bytes = applied m w; seen = q; passed = p }
+-- the nodes passed, and the steps
+pub record Count : Type 0 where
+  pub passed : ℕ
+  pub steps : ℕ
+
+abbrev pub counted : Run → Count
+counted s = record { passed = s.passed; steps = s.steps }
+
+-- an instruction, a node with its slot, and the branch of an Other or of a While's End
+abbrev pub by_one : Count → Count
+by_one p = record { passed = suc p.passed; steps = suc p.steps }
+
+abbrev pub by_two : Count → Count
+by_two p = record { passed = suc p.passed; steps = suc (suc p.steps) }
+
+abbrev pub by_branch : Count → Count
+by_branch p = record { passed = p.passed; steps = suc (suc p.steps) }
+
+abbrev pub run : Registers → Cop0 → Memory → List Entry → List Access → Count → Run
+run c z m w q p = record { regs = c; cop0 = z; bytes = applied m w; seen = q; passed = p.passed; steps = p.steps }
 
 abbrev pub load_word_by : Sort → ℕ → ℕ → Registers → Cop0 → Memory → List Entry → List Access → Next → Type 0
 load_word_by Nowhere a t c z m w q k = ⊥
@@ -110,7 +128,7 @@ Asks (NotNegative a) c k = read_then c a.0 (λ x. k (x < 2 ^ 31))
 
 -- the goal of a part of a listing, at the parts of a state
 abbrev pub Part : Type 1
-Part = Registers → Cop0 → Memory → List Entry → List Access → ℕ → Type 0
+Part = Registers → Cop0 → Memory → List Entry → List Access → Count → Type 0
 
 -- from a state that is met behind a loop or a call: its memory may be read as any memory and log that give it
 pub record Anew (k : Part) (s : Run) : Type 0 where
@@ -118,24 +136,24 @@ pub record Anew (k : Part) (s : Run) : Type 0 where
   pub log : List Entry
   pub same : s.bytes ≡ applied memory log
   pub sorted : Sorted log
-  pub goes : k s.regs s.cop0 memory log s.seen s.passed
+  pub goes : k s.regs s.cop0 memory log s.seen (counted s)
 
 -- a call from the parts of a state: the rest of the listing holds behind it
-pub record Calling (C : Calls) (a back : ℕ) (k : Part) (c : Registers) (z : Cop0) (m : Memory) (w : List Entry) (q : List Access) (p : ℕ) : Type 0 where
+pub record Calling (C : Calls) (a back : ℕ) (k : Part) (c : Registers) (z : Cop0) (m : Memory) (w : List Entry) (q : List Access) (p : Count) : Type 0 where
   pub called : Sorted w → C a back (Anew k) (run c z m w q p)
 
 abbrev pub Sym : Calls → Tree → ℕ → Part → (ℕ → Goal) → Part
 Sym C Stop at K G c z m w q p = K c z m w q p
-Sym C (Do i r) at K G c z m w q p = Act i c z m w q (λ c' z' w' q'. Sym C r (at + 4) K G c' z' m w' q' (suc p))
+Sym C (Do i r) at K G c z m w q p = Act i c z m w q (λ c' z' w' q'. Sym C r (at + 4) K G c' z' m w' q' (by_one p))
 Sym C (When t a r) at K G c z m w q p =
-    Asks t c (λ P. P → Sym C a (at + 8) (Sym C r (at + (8 + 4 * size a)) K G) G c z m w q (suc p))
-    × Asks (opposite t) c (λ P. P → Sym C r (at + (8 + 4 * size a)) K G c z m w q (suc p))
+    Asks t c (λ P. P → Sym C a (at + 8) (Sym C r (at + (8 + 4 * size a)) K G) G c z m w q (by_two p))
+    × Asks (opposite t) c (λ P. P → Sym C r (at + (8 + 4 * size a)) K G c z m w q (by_two p))
 Sym C (Choose t a b r) at K G c z m w q p =
-    Asks t c (λ P. P → Sym C a (at + 8) (Sym C r (at + (16 + 4 * size a + 4 * size b)) K G) G c z m w q (suc p))
-    × Asks (opposite t) c (λ P. P → Sym C b (at + (16 + 4 * size a)) (Sym C r (at + (16 + 4 * size a + 4 * size b)) K G) G c z m w q (suc p))
+    Asks t c (λ P. P → Sym C a (at + 8) (λ c' z' m' w' q' p'. Sym C r (at + (16 + 4 * size a + 4 * size b)) K G c' z' m' w' q' (by_branch p')) G c z m w q (by_two p))
+    × Asks (opposite t) c (λ P. P → Sym C b (at + (16 + 4 * size a)) (Sym C r (at + (16 + 4 * size a + 4 * size b)) K G) G c z m w q (by_two p))
 Sym C (Loop t a r) at K G c z m w q p =
     Meets kernel_words C (Loop t a Stop) at (Anew (Sym C r (at + (16 + 4 * size a)) K G)) G (run c z m w q p)
 Sym C (Visit a r) at K G c z m w q p =
-    write_then c 31 (at + 8) (λ c'. Calling C a (at + 8) (Sym C r (at + 8) K G) c' z m w q (suc p))
-Sym C (Go a r) at K G c z m w q p = G a (run c z m w q (suc p))
-Sym C (GoTo n r) at K G c z m w q p = read_then c n.0 (λ x. G x (run c z m w q (suc p)))
+    write_then c 31 (at + 8) (λ c'. Calling C a (at + 8) (Sym C r (at + 8) K G) c' z m w q (by_two p))
+Sym C (Go a r) at K G c z m w q p = G a (run c z m w q (by_two p))
+Sym C (GoTo n r) at K G c z m w q p = read_then c n.0 (λ x. G x (run c z m w q (by_two p)))

@@ -50,18 +50,19 @@ pub record IsGiven (kept : ℕ → Bool) (ls : List (ℕ × Tree)) (T : Tree) (a
 abbrev pub Ends : (ℕ → Bool) → List (ℕ × Tree) → Tree → ℕ → Run → Type 0
 Ends kept ls T at s = Meets kept (calls kept ls) T at (λ _. Unit {0}) (λ _ _. Unit {0}) s
 
--- Then its words come to where a run comes to, whatever the bus brings.
+-- Then its words come to where a run comes to, in exactly the steps of that run, whatever the bus brings.
 abbrev pub WordsRun : Type 0
 WordsRun =
     (kept : ℕ → Bool) (ls : List (ℕ × Tree)) (T : Tree) (at : ℕ) (s : Run) → IsGiven kept ls T at s → Ends kept ls T at s
-    → (bus : ℕ → Bus) → ((n : ℕ) → (bus n).value < 2 ^ 32) → (c : ℕ) → Reaches kept bus s.bytes (board s at c) c s.passed (λ e to. RunsTo any (called any ls) T at s e to)
+    → (bus : ℕ → Bus) → ((n : ℕ) → (bus n).value < 2 ^ 32) → (c : ℕ) → Reaches kept bus s.bytes (board s at c) c s (λ e to. RunsTo any (called any ls) T at s e to)
 
--- the words come from s at `at` to e at `to`, for some answers of the bus, in at most four steps for each node
+-- the words come from s at `at` to e at `to`, for some answers of the bus, in exactly the steps that the run makes, which are at most four for each node
 pub record IsMade (s : Run) (at : ℕ) (e : Run) (to c : ℕ) : Type 0 where
   pub answers : ℕ → Bus
   pub few : (n : ℕ) → (answers n).value < 2 ^ 32
   pub count : ℕ
   pub run : steps answers count (board s at c) ≡ Some (board e to (c + count))
+  pub exact : count + s.steps ≡ e.steps
   pub bound : count + 4 * s.passed ≤ 4 * e.passed
 
 -- And each run that stores over no word that is kept is one of the words.

@@ -18,13 +18,17 @@ Holds (Above a) c = (0 < register c a.0) × (register c a.0 < 2 ^ 31)
 Holds (Negative a) c = 2 ^ 31 ≤ register c a.0
 Holds (NotNegative a) c = register c a.0 < 2 ^ 31
 
--- one more node is passed
+-- One more node is passed, which is a branch or a jump: two steps, with its slot.
 abbrev pub passing : Run → Run
-passing s = record s { passed = suc s.passed }
+passing s = record s { passed = suc s.passed; steps = suc (suc s.steps) }
+
+-- The branch of an Other, or of a While's End, which is no node that is passed: behind the part that was run, over the other one or back to the While.
+abbrev pub branching : Run → Run
+branching s = record s { steps = suc (suc s.steps) }
 
 -- a call is made, with the address behind its slot in r31
 abbrev pub linking : Run → ℕ → Run
-linking s back = record s { regs = with_register s.regs 31 back; passed = suc s.passed }
+linking s back = record s { regs = with_register s.regs 31 back; passed = suc s.passed; steps = suc (suc s.steps) }
 
 -- what a set of states asks
 abbrev pub Goal : Type 1
@@ -34,10 +38,10 @@ Goal = Run → Type 0
 abbrev pub Calls : Type 1
 Calls = ℕ → ℕ → Goal → Goal
 
--- at most n turns of a loop, each begun with its test, and then what follows it
+-- at most n turns of a loop, each begun with its test and ended with the branch back, and then what follows it
 abbrev pub Turns : ℕ → Test → (Goal → Goal) → Goal → Goal
 Turns zero t body K s = ⊥
-Turns (suc n) t body K s = (Holds (opposite t) s.regs → K (passing s)) × (Holds t s.regs → body (Turns n t body K) (passing s))
+Turns (suc n) t body K s = (Holds (opposite t) s.regs → K (passing s)) × (Holds t s.regs → body (λ m. Turns n t body K (branching m)) (passing s))
 
 module _ (kept : ℕ → Bool) where
   -- The tree that stands at `at`, run from s, whatever the bus brings: no instruction traps, or stores over a word that is kept, or turns interrupts on;
@@ -51,7 +55,7 @@ module _ (kept : ℕ → Bool) where
       (Holds t s.regs → Meets C a (at + 8) (Meets C r (at + (8 + 4 * size a)) K G) G (passing s))
       × (Holds (opposite t) s.regs → Meets C r (at + (8 + 4 * size a)) K G (passing s))
   Meets C (Choose t a b r) at K G s =
-      (Holds t s.regs → Meets C a (at + 8) (Meets C r (at + (16 + 4 * size a + 4 * size b)) K G) G (passing s))
+      (Holds t s.regs → Meets C a (at + 8) (λ m. Meets C r (at + (16 + 4 * size a + 4 * size b)) K G (branching m)) G (passing s))
       × (Holds (opposite t) s.regs → Meets C b (at + (16 + 4 * size a)) (Meets C r (at + (16 + 4 * size a + 4 * size b)) K G) G (passing s))
   Meets C (Loop t a r) at K G s =
       (n : ℕ) × Turns n t (λ L. Meets C a (at + 8) L G) (Meets C r (at + (16 + 4 * size a)) K G) s

@@ -44,13 +44,14 @@ module _ (kept : ℕ → Bool) where
     pub bytes : (x : ℕ) → kept x ≡ true → byte s.bytes x ≡ byte first x
     pub masked : s.cop0.sr % 2 ≡ 0
 
-  -- From a board of count c, in a run that has passed so many nodes, the steps come to a state `after` at an address `to` for which Z holds, with nothing pending,
-  -- in at most four steps for each node that is passed from there on. The words are those of the first memory.
-  pub record Reaches (bus : ℕ → Bus) (first : Memory) (start : Board) (c passed : ℕ) (Z : Run → ℕ → Type 0) : Type 0 where
+  -- From a board of count c, in a state s of a run, the steps come to a state `after` at an address `to` for which Z holds, with nothing pending,
+  -- in exactly the steps that the run makes from there on, which are at most four for each node that it passes. The words are those of the first memory.
+  pub record Reaches (bus : ℕ → Bus) (first : Memory) (start : Board) (c : ℕ) (s : Run) (Z : Run → ℕ → Type 0) : Type 0 where
     pub count : ℕ
     pub after : Run
     pub to : ℕ
     pub run : steps bus count start ≡ Some (board after to (c + count))
-    pub bound : count + 4 * passed ≤ 4 * after.passed
+    pub exact : count + s.steps ≡ after.steps
+    pub bound : count + 4 * s.passed ≤ 4 * after.passed
     pub keeps : Keeps first after
     pub holds : Z after to

@@ -42,23 +42,24 @@ accessed (SW s t imm) x bus q = word_store (data_address x.context s imm) (regis
 accessed (SWR s t imm) x bus q = let a = data_address x.context s imm in Store 4 (place (round a)) (stored_right (a % 4) (register x.context.regs t.0) (read_word x.bytes (round a))) ∷ q
 accessed _ x bus q = q
 
--- All of the processor but its place in the program, with no load pending; the memory; the accesses so far, newest first; and the number of nodes passed.
+-- All of the processor but its place in the program, with no load pending; the memory; the accesses so far, newest first; the number of nodes passed; and that of the processor's steps.
 pub record Run : Type 0 where
   pub regs : Registers
   pub cop0 : Cop0
   pub bytes : Memory
   pub seen : List Access
   pub passed : ℕ
+  pub steps : ℕ
 
 -- the processor's state in a run, at an address
 abbrev pub state_at : Run → ℕ → State
 state_at s at = record { context = record { regs = s.regs; pending = None; pc = at; next = (at + 4) % 2 ^ 32; in_slot = false }; cop0 = s.cop0; bytes = s.bytes }
 
--- an instruction done, and its load settled at once
+-- an instruction done in one step, and its load settled at once
 abbrev pub done : Ins → Run → ℕ → Bus → Run
 done i s at bus =
     let x = effect i (state_at s at) bus in
-    record { regs = settled x.context.regs x.context.pending; cop0 = x.cop0; bytes = x.bytes; seen = accessed i (state_at s at) bus s.seen; passed = suc s.passed }
+    record { regs = settled x.context.regs x.context.pending; cop0 = x.cop0; bytes = x.bytes; seen = accessed i (state_at s at) bus s.seen; passed = suc s.passed; steps = suc s.steps }
 
 -- ---- what an instruction leaves as it is: `kept` says which physical addresses hold words of listings
 

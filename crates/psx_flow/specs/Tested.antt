@@ -57,13 +57,14 @@ pub record Refused (s e : Run) : Type 0 where
   pub bytes : e.bytes ≡ s.bytes
   pub seen : e.seen ≡ s.seen
 
--- it comes back to the address in r31, within 28 nodes
+-- it comes back to the address in r31, within 28 nodes and 29 steps
 pub record Tries (kind : Tested) (s : Run) (to : ℕ) (e : Run) : Type 0 where
   pub back : to ≡ s.regs.r31
   pub made : is_good kind s.regs.r8 ≡ true → Made kind s e
   pub refused : is_good kind s.regs.r8 ≡ false → Refused s e
   pub cop0 : e.cop0 ≡ s.cop0
   pub within : e.passed ≤ s.passed + 28
+  pub steps : e.steps ≤ s.steps + 29
 
 -- from each state, of which r8 is a word, and at any address the listing does this, and no more
 abbrev pub Serves : Tested → Tree → Type 0

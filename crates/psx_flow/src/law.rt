@@ -7,12 +7,12 @@ pub fn loads_settle()
     ensures { LoadsSettle }
 {}
 
-/// Where a listing's runs end whatever the bus brings, its words, fetched and run by the processor's step, come to an end by one of its runs, in at most four steps for each node.
+/// Where a listing's runs end whatever the bus brings, its words, fetched and run by the processor's step, come to an end by one of its runs, in exactly the steps of that run, at most four for each node.
 pub fn words_run()
     ensures { WordsRun }
 {}
 
-/// Each run of a listing is made by its words, for some answers of the bus.
+/// Each run of a listing is made by its words, in exactly its steps, for some answers of the bus.
 pub fn runs_are_made()
     ensures { RunsAreMade }
 {}

@@ -14,9 +14,9 @@ pub returns : goal.returns
 returns a = λ kept ls T at s given ends most few.
     let R = Runs any (called any ls) T at s in
     let h = into kept any (λ i c e. refl) (calls kept ls) (fair kept ls) (called any ls) (tells kept any (λ i c e. refl) ls) T at _ _ s R (λ e w. w) ends in
-    walk_placed kept s.bytes (Within (EndsRun ls T at s)) (within_backs (EndsRun ls T at s)) most ls given.calls T at _ _ (4 * most) s (omega arith) given.placed (record { bytes = λ x e. refl; masked = given.masked }) (record {
+    walk_placed kept s.bytes (Within (EndsRun ls T at s)) (within_backs (EndsRun ls T at s)) most ls given.calls T at _ _ most s (omega arith) given.placed (record { bytes = λ x e. refl; masked = given.masked }) (record {
       low = λ e z. few e (at + 4 * size T) (inl (refl, z.1));
       low_jump = λ b e z. few e b (inr z.1);
       here = λ e ke z n lt. within_here _ n _ _ (e, at + 4 * size T, inl (refl, z.1), refl, refl);
       jump = λ b e ke z n lt. within_here _ n _ _ (e, b, inr z.1, refl, refl);
-    }) h (4 * most - 4 * s.passed) (omega arith)
+    }) h (most - s.steps) (omega arith)
