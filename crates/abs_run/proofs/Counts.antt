@@ -1,7 +1,7 @@
 -- The counts of a run's items don't fall.
 use Rattle.std.proofs.Common.{◌≡◌, ℕ, zero, suc, ◌+◌, ◌≤◌, Bool, true, false, List, [], ◌∷◌, ◌++◌, refl, sym, subst, ◌∙◌, arith}
 use Rattle.std.specs.Prelude.{if◌then◌else◌, nat_le, ◌&&◌}
-use Rattle.psx_base.specs.declared.ports.TheConstants.{CONSOLE_STATUS, HALT}
+use Rattle.psx_base.specs.Ports.{CONSOLE_STATUS, HALT}
 use Rattle.psx_base.specs.declared.stop.Stop.TheVariants.{Budget}
 use Rattle.psx_base.specs.Items.{Item, R, W}
 use Rattle.psx_sched.specs.declared.schedule.What.{What}
