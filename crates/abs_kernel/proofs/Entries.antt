@@ -2,8 +2,8 @@
 use Rattle.std.proofs.Common.{◌≡◌, ℕ, ◌/◌, ◌%◌, ◌^◌, ◌<◌, Bool, true, false, refl, ap, arith}
 use Rattle.std.specs.Prelude.{nat_le}
 use Rattle.psx_base.specs.Context.{epc_of}
+use Rattle.psx_base.specs.Entrances.{entrance}
 use Rattle.psx_cpu.specs.Exceptions.{cause_of}
-use Rattle.abs_kernel.specs.Cause.{entrance}
 use Rattle.abs_kernel.specs.CauseLaws.{EntriesKept, EntriesTold}
 
 pub entries_kept : EntriesKept

@@ -3,8 +3,9 @@ use Rattle.std.proofs.Common.{◌≡◌, ℕ, Bool, false, refl, sym, ap, ◌∙
 use Rattle.psx_base.specs.Registers.{Registers}
 use Rattle.psx_base.specs.Context.{Context, settle, epc_of}
 use Rattle.psx_base.specs.Items.{Entrance, ByA, ByB, ByC, BySyscall, ByInterrupt, ByDone, ByBack, ByTrap}
+use Rattle.psx_base.specs.Entrances.{entrance, number}
 use Rattle.psx_cpu.specs.Exceptions.{cause_of}
-use Rattle.abs_kernel.specs.Cause.{Entry, entrance, number}
+use Rattle.abs_kernel.specs.Cause.{Entry}
 use Rattle.abs_kernel.specs.ProgramLaws.{EnteredAgain}
 
 -- k0 and k1 are in no entry's number

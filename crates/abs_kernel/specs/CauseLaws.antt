@@ -1,9 +1,10 @@
 -- What the processor keeps of an entry, and that it tells by what the kernel was entered (R3000A manual, exception processing).
 use Rattle.std.specs.Prelude.{◌≡◌, ℕ, ◌/◌, ◌%◌, ◌^◌, ◌<◌, nat_le}
 use Rattle.psx_base.specs.Context.{Context}
+use Rattle.psx_base.specs.Entrances.{entrance, number}
 use Rattle.psx_cpu.specs.Processor.{Processor, Trap}
 use Rattle.psx_cpu.specs.Exceptions.{enter}
-use Rattle.abs_kernel.specs.Cause.{Entry, entrance, number, entry_of}
+use Rattle.abs_kernel.specs.Cause.{Entry, entry_of}
 
 -- a processor has an entry with a code in Cause, EPC and its registers
 pub record Keeps (p : Processor) (code : ℕ) (e : Entry) : Type 0 where

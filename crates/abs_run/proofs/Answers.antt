@@ -1,10 +1,10 @@
 -- Each port answers a word: the lines and the masks have 11 bits, the counters 16, the console's bytes are bytes, and the start ports have words.
 use Rattle.std.proofs.Common.{ℕ, ◌+◌, ◌/◌, ◌-◌, ◌%◌, ◌^◌, ◌<◌, ◌≤◌, Bool, true, false, List, [], ◌∷◌, ◌++◌, drop, sym, subst, arith}
 use Rattle.std.specs.Prelude.{if◌then◌else◌, nat_eq}
-use Rattle.psx_base.specs.declared.ports.TheConstants.{I_STAT, I_MASK, CONSOLE_STATUS, CONSOLE_DATA, START_PC, START_GP, START_SP, START_THREADS, START_EVENTS}
+use Rattle.psx_base.specs.Ports.{I_STAT, I_MASK, value_port, mode_port, target_port, CONSOLE_STATUS, CONSOLE_DATA, START_PC, START_GP, START_SP, START_THREADS, START_EVENTS}
 use Rattle.psx_ports.specs.Counter.{Setting, Act, SetValue, SetMode, SetTarget, TakeMode, resets, after_turns, value_at, setting, clock, reached_target, reached_top}
 use Rattle.psx_ports.specs.Laps.{limit_of}
-use Rattle.psx_ports.specs.History.{Given, History, Event, Read, Write, Raise, Give, last_written, acts_of, pending, i_stat, i_mask, due, status_of, first_of, counter_answer, counters_answer, start_answer, answer, value_port, mode_port, target_port}
+use Rattle.psx_ports.specs.History.{Given, History, Event, Read, Write, Raise, Give, last_written, acts_of, pending, i_stat, i_mask, due, status_of, first_of, counter_answer, counters_answer, start_answer, answer}
 use Rattle.psx_ports.proofs.Reckoning.{after-turns, lap-small}
 use Rattle.psx_ports.proofs.Words.{word-small}
 

@@ -1,7 +1,7 @@
 -- The counts of a run's items don't fall.
 use Rattle.std.proofs.Common.{◌≡◌, ℕ, zero, suc, ◌+◌, ◌≤◌, Bool, true, false, List, [], ◌∷◌, ◌++◌, refl, sym, subst, ◌∙◌, arith}
 use Rattle.std.specs.Prelude.{if◌then◌else◌, nat_le, ◌&&◌}
-use Rattle.psx_base.specs.declared.ports.TheConstants.{CONSOLE_STATUS, HALT}
+use Rattle.psx_base.specs.Ports.{CONSOLE_STATUS, HALT}
 use Rattle.psx_base.specs.declared.stop.Stop.TheVariants.{Budget}
 use Rattle.psx_base.specs.Items.{Item, R, W}
 use Rattle.psx_sched.specs.declared.schedule.What.{What}
@@ -15,7 +15,7 @@ use Rattle.psx_ports.specs.History.{History, Write, written, line}
 use Rattle.psx_board.specs.Machine.{Machine}
 use Rattle.psx_board.specs.Delivery.{arrived, all_arrived, delivered, due}
 use Rattle.psx_board.specs.Entries.{entry, return}
-use Rattle.psx_board.specs.Turn.{Turn, On, Ends, bus_of, moved, accessed, shown, after_write, by_move, stepped, turn}
+use Rattle.psx_board.specs.Turn.{Turn, On, Final, bus_of, moved, accessed, shown, after_write, by_move, stepped, turn}
 use Rattle.psx_board.specs.Run.{run, then_run, ended}
 use Rattle.abs_run.specs.KernelRun.{count_of, Rising}
 
@@ -50,7 +50,7 @@ Few now (item ∷ other ∷ rest) = ⊥
 
 abbrev TurnRises : ℕ → Turn → Type 0
 TurnRises now (On next items tty) = (next.history.now ≡ now + 1) × Few now items
-TurnRises now (Ends last stop) = now ≤ last.history.now
+TurnRises now (Final last stop) = now ≤ last.history.now
 
 few-shown : (b : Bool) (now : ℕ) (item : Item) → count_of item ≡ now → Few now (shown b item)
 few-shown true now item e = (omega arith, omega arith)
@@ -84,7 +84,7 @@ rising-append now (item ∷ other ∷ more) rest few h = absurd few
 
 turn-rises : (now n : ℕ) (t : Turn) → TurnRises now t → ((m : Machine) → Rising m.history.now (run n m).items) → Rising now (then_run t (run n)).items
 turn-rises now n (On next items tty) h rest = rising-append now items (run n next).items h.1 (subst (λ (c : ℕ). Rising c (run n next).items) h.0 (rest next))
-turn-rises now n (Ends last stop) h rest = (h, tt)
+turn-rises now n (Final last stop) h rest = (h, tt)
 
 pub run-rises : (n : ℕ) (m : Machine) → Rising m.history.now (run n m).items
 run-rises zero m = subst (λ o. Rising m.history.now o.items) (sym (run-zero m)) (omega arith, tt)

@@ -10,12 +10,13 @@ use Rattle.psx_base.specs.Addresses.{gate_of}
 use Rattle.psx_base.specs.Memory.{Memory, byte}
 use Rattle.psx_base.specs.Context.{Context, epc_of}
 use Rattle.psx_base.specs.Items.{ByInterrupt, ByTrap, Item, B, E, R, W, X, S}
+use Rattle.psx_base.specs.Entrances.{entrance, by_syscall}
 use Rattle.psx_base.specs.KernelState.{KernelState}
 use Rattle.psx_exe.specs.declared.exe.Exe.{Exe}
 use Rattle.psx_cpu.specs.Processor.{Trap}
 use Rattle.psx_cpu.specs.UserStep.{Next, Raises}
 use Rattle.kern_layout.specs.Stands.{SameUser}
-use Rattle.abs_kernel.specs.Cause.{entrance, entrance_of, by_syscall}
+use Rattle.abs_kernel.specs.Cause.{entrance_of}
 use Rattle.abs_kernel.specs.Played.{Asked, Told, Returned, Halted}
 use Rattle.abs_kernel.specs.UserLaws.{stepped}
 use Rattle.abs_run.specs.Accepted.{opening}

@@ -5,7 +5,7 @@ use Rattle.std.proofs.lemmas.Bool.{eqb-true, false≢true}
 use Rattle.psx_ins.specs.declared.ins.Ins.{Ins}
 use Rattle.psx_ins.specs.declared.ins.Ins.TheVariants.{LW, SW, RFE}
 use Rattle.psx_ins.specs.Decoding.{instruction_of}
-use Rattle.psx_base.specs.declared.ports.TheConstants.{START_PC, START_GP, START_SP, START_THREADS, START_EVENTS}
+use Rattle.psx_base.specs.Ports.{START_PC, START_GP, START_SP, START_THREADS, START_EVENTS}
 use Rattle.psx_base.specs.Addresses.{user, gate_of, place}
 use Rattle.psx_base.specs.PortAddresses.{port}
 use Rattle.psx_base.specs.Context.{Context}

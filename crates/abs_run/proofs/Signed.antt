@@ -2,7 +2,7 @@
 use Rattle.std.proofs.Common.{◌≡◌, ◌≢◌, ℕ, zero, suc, ◌+◌, ◌%◌, ◌^◌, Bool, true, false, List, [], ◌∷◌, Option, Some, None, refl, sym, ap, subst, ◌∙◌, arith}
 use Rattle.std.specs.Prelude.{if◌then◌else◌, nat_eq, nat_le, ◌&&◌}
 use Rattle.std.proofs.lemmas.Bool.{eqb-true}
-use Rattle.psx_base.specs.declared.ports.TheConstants.{CONSOLE_STATUS, CONSOLE_DATA, HALT, HALT_A, HALT_B, HALT_C}
+use Rattle.psx_base.specs.Ports.{CONSOLE_STATUS, CONSOLE_DATA, HALT, HALT_A, HALT_B, HALT_C}
 use Rattle.psx_base.specs.declared.stop.Stop.{Stop}
 use Rattle.psx_base.specs.declared.stop.Stop.TheVariants.{Budget}
 use Rattle.psx_base.specs.Items.{Item, R, W, X}
@@ -14,7 +14,7 @@ use Rattle.psx_ports.specs.HaltCodes.{halt_stop}
 use Rattle.psx_ports.specs.History.{History, Read, Write, then_event, last_written, halted}
 use Rattle.psx_board.specs.Machine.{Machine}
 use Rattle.psx_board.specs.Entries.{return}
-use Rattle.psx_board.specs.Turn.{Turn, On, Ends, moved, accessed, shown, write_shown, after_write, by_move}
+use Rattle.psx_board.specs.Turn.{Turn, On, Final, moved, accessed, shown, write_shown, after_write, by_move}
 use Rattle.abs_run.specs.InWords.{CoreFits, MoveFits}
 use Rattle.abs_run.specs.InKernel.{InKernel, in_kernel, Sign, Nothing, PortRead, PortWritten, Printed, LeftKernel, EndedRun, Strayed, halt_sign, write_sign, sign_of}
 use Rattle.abs_run.specs.Invariant.{Passes, accesses_of}
@@ -39,7 +39,7 @@ Signed d (Printed k byte) turn =
     (next : Machine) × (value : ℕ) × (turn ≡ On next [] (byte ∷ [])) × (in_kernel next.core next.history ≡ k) × (value % 2 ^ 8 ≡ byte) × After d (then_event d.history (Write d.history.now CONSOLE_DATA value)) next
 Signed d (LeftKernel core) turn =
     (next : Machine) × (turn ≡ On next (X (d.history.now + 1) core.processor.context.pc core.processor.cop0.sr core.processor.context.regs ∷ []) []) × (next.core ≡ core) × After d d.history next
-Signed d (EndedRun core stop) turn = (last : Machine) × (turn ≡ Ends last stop) × (last.core ≡ core) × (stop ≢ Budget)
+Signed d (EndedRun core stop) turn = (last : Machine) × (turn ≡ Final last stop) × (last.core ≡ core) × (stop ≢ Budget)
 Signed d Strayed turn = Unit {0}
 
 module _ (d : Machine) (began : d.began ≡ true) where

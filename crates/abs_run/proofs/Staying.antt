@@ -1,6 +1,6 @@
 -- From a stay that is served to the board's run behind it, by induction on the budget.
 use Rattle.std.proofs.Common.{◌≡◌, ℕ, zero, suc, ◌+◌, ◌*◌, ◌<◌, true, List, [], ◌∷◌, ◌++◌, refl, sym, ap, subst, ◌∙◌, inl, inr, append-nil, append_assoc, arith}
-use Rattle.psx_base.specs.declared.ports.TheConstants.{CONSOLE_DATA}
+use Rattle.psx_base.specs.Ports.{CONSOLE_DATA}
 use Rattle.psx_base.specs.declared.stop.Stop.{Stop}
 use Rattle.psx_base.specs.Memory.{Memory}
 use Rattle.psx_base.specs.Context.{Context}

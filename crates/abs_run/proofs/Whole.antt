@@ -2,7 +2,7 @@
 use Rattle.std.proofs.Common.{◌≡◌, ℕ, ◌⊎◌, inl, inr, List, [], ◌∷◌, sym, ap, subst, ◌∙◌, arith}
 use Rattle.psx_base.specs.declared.stop.Stop.TheVariants.{Budget}
 use Rattle.psx_base.specs.declared.stop.Sizes.{Sizes}
-use Rattle.psx_base.specs.declared.ports.TheConstants.{CONSOLE_DATA}
+use Rattle.psx_base.specs.Ports.{CONSOLE_DATA}
 use Rattle.psx_base.specs.Items.{Entrance, Item, B, E, R, W, X, S}
 use Rattle.psx_base.specs.KernelState.{KernelState}
 use Rattle.psx_sched.specs.declared.schedule.Entry.{Entry}

@@ -1,6 +1,6 @@
 -- What of the board the kernel's words work on, and what a step of theirs shows outside.
 use Rattle.std.specs.Prelude.{ℕ, ◌%◌, ◌^◌, ◌&&◌, nat_eq, nat_le, Option, Some, None, if◌then◌else◌}
-use Rattle.psx_base.specs.declared.ports.TheConstants.{CONSOLE_STATUS, CONSOLE_DATA, HALT, HALT_A, HALT_B, HALT_C}
+use Rattle.psx_base.specs.Ports.{CONSOLE_STATUS, CONSOLE_DATA, HALT, HALT_A, HALT_B, HALT_C}
 use Rattle.psx_base.specs.declared.stop.Stop.{Stop}
 use Rattle.psx_cpu.specs.Processor.{Core}
 use Rattle.psx_cpu.specs.Step.{Move, Goes, Reads, Writes, Enters, Leaves, Stops}

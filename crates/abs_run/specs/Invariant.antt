@@ -1,6 +1,6 @@
 -- An invariant of the state and the device history at user moments, by which the entries of runs are covered.
 use Rattle.std.specs.Prelude.{◌≡◌, ◌⊎◌, ℕ, ◌%◌, ◌^◌, ◌≤◌, Bool, true, ◌&&◌, nat_le, List, [], ◌∷◌, if◌then◌else◌}
-use Rattle.psx_base.specs.declared.ports.TheConstants.{CONSOLE_DATA, HALT, HALT_A}
+use Rattle.psx_base.specs.Ports.{CONSOLE_DATA, HALT, HALT_A}
 use Rattle.psx_base.specs.declared.stop.Sizes.{Sizes}
 use Rattle.psx_base.specs.Context.{Context}
 use Rattle.psx_base.specs.Memory.{Memory}

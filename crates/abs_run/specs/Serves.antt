@@ -1,6 +1,6 @@
 -- That a ROM serves the written kernel machine: its words boot to the state in which a program begins, and from each entry they make the stay.
 use Rattle.std.specs.Prelude.{◌≡◌, ℕ, zero, suc, ◌+◌, ◌*◌, ◌^◌, ◌<◌, ◌≤◌, Bool, true, ◌||◌, nat_eq, is_some, List, [], All}
-use Rattle.psx_base.specs.declared.ports.TheConstants.{START_PC, START_GP, START_SP, START_THREADS, START_EVENTS}
+use Rattle.psx_base.specs.Ports.{START_PC, START_GP, START_SP, START_THREADS, START_EVENTS}
 use Rattle.psx_base.specs.declared.stop.Stop.{Stop}
 use Rattle.psx_base.specs.declared.stop.Sizes.{Sizes}
 use Rattle.psx_base.specs.Addresses.{gate_of}

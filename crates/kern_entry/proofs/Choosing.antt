@@ -5,8 +5,8 @@ use Rattle.std.specs.Prelude.{if◌then◌else◌, nat_eq}
 use Rattle.psx_base.specs.declared.address.Gate.{Gate}
 use Rattle.psx_base.specs.Addresses.{is_mirrored, low, gate_at, gate_of}
 use Rattle.psx_base.specs.Items.{Entrance, ByA, ByB, ByC, BySyscall, ByInterrupt, ByDone, ByBack, ByTrap}
+use Rattle.psx_base.specs.Entrances.{entrance, by_syscall}
 use Rattle.psx_cpu.specs.Exceptions.{cause_of}
-use Rattle.abs_kernel.specs.Cause.{by_syscall, entrance}
 use Rattle.kern_entry.specs.declared.places.TheConstants.{CAUSES, CALL_A, CALL_B, CALL_C, SYSCALLS, EXCEPTION, DONE, BACK}
 use Rattle.kern_entry.specs.declared.save.TheConstants.{CAUSES_NODES}
 use Rattle.kern_entry.specs.EntryWords.{tree}

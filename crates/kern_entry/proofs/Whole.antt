@@ -11,6 +11,7 @@ use Rattle.psx_base.specs.Registers.{Registers}
 use Rattle.psx_base.specs.Context.{Context, settled, settle, epc_of, placed, taken}
 use Rattle.psx_base.specs.Addresses.{is_mirrored}
 use Rattle.psx_base.specs.Items.{Entrance, ByA, ByB, ByC, BySyscall, ByInterrupt, ByDone, ByBack, ByTrap}
+use Rattle.psx_base.specs.Entrances.{entrance}
 use Rattle.psx_base.specs.KernelState.{KernelState}
 use Rattle.psx_cpu.specs.Processor.{Core, Cop0}
 use Rattle.psx_cpu.specs.Exceptions.{cause_of, entered_sr, vector, enter}
@@ -27,7 +28,7 @@ use Rattle.kern_layout.specs.Contexts.{saved_sr_of}
 use Rattle.kern_layout.specs.Stands.{user_sr}
 use Rattle.abs_kernel.specs.declared.calls.CallId.{CallId}
 use Rattle.abs_kernel.specs.CallTable.{served_call}
-use Rattle.abs_kernel.specs.Cause.{entrance, entrance_of}
+use Rattle.abs_kernel.specs.Cause.{entrance_of}
 use Rattle.abs_kernel.specs.Stay.{Stay}
 use Rattle.abs_kernel.specs.Answered.{with_running, with_answer}
 use Rattle.abs_kernel.specs.Sys.{with_interrupts, syscall}

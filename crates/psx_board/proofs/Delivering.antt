@@ -6,13 +6,12 @@ use Rattle.std.proofs.lemmas.List.Elements.{All-nil, All-cons}
 use Rattle.psx_sched.specs.declared.schedule.Entry.{Entry}
 use Rattle.psx_sched.specs.Schedule.{IsOrdered, IsPlausible}
 use Rattle.psx_ports.specs.History.{History}
-use Rattle.psx_ports.specs.Stands.{StandsFor}
-use Rattle.psx_ports.specs.Stands as Ports
+use Rattle.psx_ports.specs.Stands.{KeptPorts, StandsFor}
 use Rattle.psx_board.specs.Devices.{NotBefore}
 use Rattle.psx_board.specs.Delivery.{due, later, arrived, all_arrived}
 
 -- the entries from an index on are still to be delivered to these ports
-pub record Left (entries : List Entry) (count index : ℕ) (ports : Ports.Kept) (h : History) : Type 0 where
+pub record Left (entries : List Entry) (count index : ℕ) (ports : KeptPorts) (h : History) : Type 0 where
   pub history : History
   pub stands : StandsFor ports history
   pub same : all_arrived history (due count (drop index entries)) ≡ all_arrived h (due count entries)
@@ -47,11 +46,11 @@ due-none e es count early = due-no (nat_le e.count count) e es count (grind arit
 pub later-all : (e : Entry) (es : List Entry) (count : ℕ) → count < e.count → later count (e ∷ es) ≡ e ∷ es
 later-all e es count early = later-no (nat_le e.count count) e es count (grind arith)
 
-pub left-first : (entries : List Entry) (count : ℕ) (ports : Ports.Kept) (h : History) → StandsFor ports h → Left entries count 0 ports h
+pub left-first : (entries : List Entry) (count : ℕ) (ports : KeptPorts) (h : History) → StandsFor ports h → Left entries count 0 ports h
 left-first entries count ports h s = record { history = h; stands = s; same = refl }
 
 -- an entry more was delivered
-pub left-more : (entries : List Entry) (count index : ℕ) (e : Entry) (before now : Ports.Kept) (h : History) → drop index entries ≡ e ∷ drop (index + 1) entries → e.count ≤ count
+pub left-more : (entries : List Entry) (count index : ℕ) (e : Entry) (before now : KeptPorts) (h : History) → drop index entries ≡ e ∷ drop (index + 1) entries → e.count ≤ count
     → ((g : History) → StandsFor before g → StandsFor now (arrived g e.what)) → Left entries count index before h → Left entries count (index + 1) now h
 left-more entries count index e before now h split come one l = record {
   history = arrived l.history e.what;
@@ -60,7 +59,7 @@ left-more entries count index e before now h split come one l = record {
 }
 
 -- no further entry is due
-pub left-done : (entries : List Entry) (count index : ℕ) (ports : Ports.Kept) (h : History) → due count (drop index entries) ≡ [] → Left entries count index ports h
+pub left-done : (entries : List Entry) (count index : ℕ) (ports : KeptPorts) (h : History) → due count (drop index entries) ≡ [] → Left entries count index ports h
     → StandsFor ports (all_arrived h (due count entries))
 left-done entries count index ports h none l = rw (← l.same, none) l.stands
 

@@ -5,7 +5,7 @@ use Rattle.psx_base.specs.declared.stop.Stop.TheVariants.{Budget}
 use Rattle.psx_base.specs.Items.{Item, S}
 use Rattle.psx_cpu.specs.declared.step.Did.{Did}
 use Rattle.psx_board.specs.Machine.{Machine}
-use Rattle.psx_board.specs.Turn.{Turn, On, Ends, turn}
+use Rattle.psx_board.specs.Turn.{Turn, On, Final, turn}
 use Rattle.psx_board.specs.Delivery.{line}
 use Rattle.psx_board.specs.Run.{Outcome, run, ended, behind, then_run}
 use Rattle.psx_board.specs.SoFar.{SoFar, extended, one_more, so_far, StandsAfter, closed_run}
@@ -22,7 +22,7 @@ so_far-more n m s is going = ap (λ (k : ℕ). so_far k m) (omega arith) ∙ so_
 made : (n : ℕ) (m : Machine) (t : Turn) (did : Did) (new : View) (s : SoFar) → TurnedBy s.last.began (line s.last) s.last.history.now t did new
     → Stands new (extended s t).last × (new.stopped ≡ (extended s t).stop)
 made n m (On next items tty) did new s t = (t.stands, t.stopped)
-made n m (Ends last stop) did new s t = (t.stands, t.stopped)
+made n m (Final last stop) did new s t = (t.stands, t.stopped)
 
 -- a board that stood for the first calls of a step stands for one more
 pub one_more_step : (n : ℕ) (m : Machine) (old new : View) (did : Did) → StandsAfter old n m → old.stopped ≡ None → ((x : Machine) → Stands old x → Turned x (turn x) did new) → StandsAfter new (n + 1) m
@@ -81,7 +81,7 @@ closed-going s going = ap (λ (o : Option Stop). closed_run (record s { stop = o
 closes-turn : (n : ℕ) (s : SoFar) (t : Turn) → ((x : SoFar) → x.stop ≡ None → closed_run (more n x) ≡ behind x.items x.tty (run n x.last))
     → closed_run (more n (extended s t)) ≡ behind s.items s.tty (then_run t (run n))
 closes-turn n s (On next items tty) rest = rest (extended s (On next items tty)) refl ∙ behind-twice s.items items s.tty tty (run n next)
-closes-turn n s (Ends last stop) rest = ap closed_run (more-stopped n (extended s (Ends last stop)) stop refl) ∙ behind-ended s.items s.tty last stop
+closes-turn n s (Final last stop) rest = ap closed_run (more-stopped n (extended s (Final last stop)) stop refl) ∙ behind-ended s.items s.tty last stop
 
 closes : (n : ℕ) (s : SoFar) → s.stop ≡ None → closed_run (more n s) ≡ behind s.items s.tty (run n s.last)
 unfolding more

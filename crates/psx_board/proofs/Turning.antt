@@ -18,7 +18,7 @@ use Rattle.psx_board.specs.Delivery.{due, delivered}
 use Rattle.psx_board.specs.Turn.{Turn, after_write, accessed, moved, by_move, shown, asked, answered, bus_of, stepped, turn}
 use Rattle.psx_board.specs.Entries.{entry, return}
 use Rattle.psx_board.specs.Told.{told, told_move, told_stepped, told_write}
-use Rattle.psx_board.specs.Devices.{Kept, Carries}
+use Rattle.psx_board.specs.Devices.{KeptDevices, Carries}
 use Rattle.psx_board.specs.Finished.{Counted, Wrote, Finished, after_read, stop_of}
 use Rattle.psx_board.specs.Stands.{View, Stands, Turned, TurnedBy, console_bytes}
 use Rattle.psx_board.proofs.Again.{all_arrived-now, arrived-again, later-again}
@@ -49,19 +49,19 @@ console h at value =
 
 -- ---- what is told
 
-told-write : (h : History) (waiting : List Entry) (at value : ℕ) (port : PortDid) (did : Did) (new : Kept) → Wrote h waiting at value port did new → did ≡ told_write at value port
-told-write h waiting at value Quiet did new w = w.0
-told-write h waiting at value (Tty byte) did new w = w.0
-told-write h waiting at value (Halt stop) did new w = w.0
+write_tells : (h : History) (waiting : List Entry) (at value : ℕ) (port : PortDid) (did : Did) (new : KeptDevices) → Wrote h waiting at value port did new → did ≡ told_write at value port
+write_tells h waiting at value Quiet did new w = w.0
+write_tells h waiting at value (Tty byte) did new w = w.0
+write_tells h waiting at value (Halt stop) did new w = w.0
 
-tells : (h : History) (waiting : List Entry) (old : Core) (move : Move) (did result : Did) (next : Core) (new : Kept)
+tells : (h : History) (waiting : List Entry) (old : Core) (move : Move) (did result : Did) (next : Core) (new : KeptDevices)
     → Does old move did next → Finished (after_read h (port_read move)) waiting did result new → result ≡ told_move h move
 tells h waiting old (Goes k) Plain result next new does f = f.0
 tells h waiting old (Reads k at value) (PortRead at' value') result next new does f = f.0 ∙ (λ i. PortRead (does.1.0 i) (does.1.1 i))
 tells h waiting old (Enters k code) (Entered code') result next new does f = f.0 ∙ ap Entered does.1
 tells h waiting old (Leaves k) Left result next new does f = f.0
 tells h waiting old (Writes k at value) (PortWrite at' value') result next new does f =
-    told-write h waiting at' value' (written h at' value') result new f ∙ (λ i. told_write (does.1.0 i) (does.1.1 i) (written h (does.1.0 i) (does.1.1 i)))
+    write_tells h waiting at' value' (written h at' value') result new f ∙ (λ i. told_write (does.1.0 i) (does.1.1 i) (written h (does.1.0 i) (does.1.1 i)))
 tells h waiting old (Stops stop) (Stopped stop') result next new does f = f.0 ∙ ap Stopped does.1
 tells h waiting old _ _ result next new does f = absurd does
 

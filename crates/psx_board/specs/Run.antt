@@ -7,7 +7,7 @@ use Rattle.psx_base.specs.Items.{Item, S}
 use Rattle.psx_sched.specs.declared.schedule.Entry.{Entry}
 use Rattle.psx_exe.specs.declared.exe.Exe.{Exe}
 use Rattle.psx_board.specs.Machine.{Machine, start}
-use Rattle.psx_board.specs.Turn.{Turn, On, Ends, turn}
+use Rattle.psx_board.specs.Turn.{Turn, On, Final, turn}
 
 -- the lines of a run, what it wrote to the console, how it ended, and the last state
 pub record Outcome : Type 0 where
@@ -26,7 +26,7 @@ ended m stop = record { items = S m.history.now stop ∷ []; tty = []; stop = st
 -- a run that goes on by rest, where its first step goes on
 abbrev pub then_run : Turn → (Machine → Outcome) → Outcome
 then_run (On next items tty) rest = behind items tty (rest next)
-then_run (Ends last stop) rest = ended last stop
+then_run (Final last stop) rest = ended last stop
 
 -- The run within so many further steps. A halt in the last step wins over Budget, and what would be barred after the last step is Budget.
 unfoldable pub run : ℕ → Machine → Outcome

@@ -4,7 +4,7 @@ use Rattle.psx_base.specs.declared.stop.Stop.{Stop}
 use Rattle.psx_base.specs.declared.stop.Stop.TheVariants.{Budget}
 use Rattle.psx_base.specs.Items.{Item, S}
 use Rattle.psx_board.specs.Machine.{Machine}
-use Rattle.psx_board.specs.Turn.{Turn, On, Ends, turn}
+use Rattle.psx_board.specs.Turn.{Turn, On, Final, turn}
 use Rattle.psx_board.specs.Run.{Outcome}
 use Rattle.psx_board.specs.Stands.{View, Stands}
 
@@ -18,7 +18,7 @@ pub record SoFar : Type 0 where
 -- a step more; none is made behind a stop
 abbrev pub extended : SoFar → Turn → SoFar
 extended s (On next items tty) = record { items = s.items ++ items; tty = s.tty ++ tty; last = next; stop = None }
-extended s (Ends last stop) = record { items = s.items; tty = s.tty; last = last; stop = Some stop }
+extended s (Final last stop) = record { items = s.items; tty = s.tty; last = last; stop = Some stop }
 
 abbrev pub one_more : SoFar → Option Stop → SoFar
 one_more s (Some stop) = s

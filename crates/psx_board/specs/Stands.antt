@@ -8,14 +8,14 @@ use Rattle.psx_cpu.specs.declared.step.Did.TheVariants.{Plain, PortRead, PortWri
 use Rattle.psx_cpu.specs.Processor.{Core}
 use Rattle.psx_board.specs.Machine.{Machine}
 use Rattle.psx_board.specs.Delivery.{delivered, line}
-use Rattle.psx_board.specs.Devices.{Kept, Carries}
+use Rattle.psx_board.specs.Devices.{KeptDevices, Carries}
 use Rattle.psx_board.specs.Entries.{entry, return}
-use Rattle.psx_board.specs.Turn.{Turn, On, Ends, shown, write_shown}
+use Rattle.psx_board.specs.Turn.{Turn, On, Final, shown, write_shown}
 
 -- what a board keeps; taken is the count of its devices
 pub record View : Type 0 where
   pub core : Core
-  pub devices : Kept
+  pub devices : KeptDevices
   pub taken : ℕ
   pub stopped : Option Stop
 
@@ -67,7 +67,7 @@ TurnedBy began line count (On next items tty) did new = record {
   began : next.began ≡ begun began did;
   stopped : new.stopped ≡ None;
 }
-TurnedBy began line count (Ends last stop) did new = record { told : did ≡ Stopped stop; stands : Stands new last; stopped : new.stopped ≡ Some stop }
+TurnedBy began line count (Final last stop) did new = record { told : did ≡ Stopped stop; stands : Stands new last; stopped : new.stopped ≡ Some stop }
 
 -- the same of a machine
 abbrev pub Turned : Machine → Turn → Did → View → Type 0

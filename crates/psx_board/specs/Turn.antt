@@ -15,7 +15,7 @@ use Rattle.psx_board.specs.Entries.{entry, return}
 -- A step goes on, with the lines and console bytes that it makes, or it ends the run.
 pub data Turn : Type 0 where
   On : (next : Machine) (items : List Item) (tty : List ℕ) → Turn
-  Ends : (last : Machine) (stop : Stop) → Turn
+  Final : (last : Machine) (stop : Stop) → Turn
 
 -- the port that the coming step reads; which one it is doesn't hang on the answer
 abbrev pub asked : Machine → Option ℕ
@@ -50,7 +50,7 @@ write_shown began count at value = if nat_le CONSOLE_STATUS at && nat_le at HALT
 abbrev pub after_write : Machine → ℕ → ℕ → PortDid → Machine → Turn
 after_write m at value Quiet next = On next (write_shown m.began m.history.now at value) []
 after_write m at value (Tty byte) next = On next (write_shown m.began m.history.now at value) (byte ∷ [])
-after_write m at value (Halt stop) next = Ends next stop
+after_write m at value (Halt stop) next = Final next stop
 
 -- what the processor's step makes of the board
 abbrev pub by_move : Machine → Move → Turn
@@ -59,7 +59,7 @@ by_move m (Reads next at value) = On (moved (accessed m (Read m.history.now at))
 by_move m (Writes next at value) = after_write m at value (written m.history at value) (moved (accessed m (Write m.history.now at value)) next)
 by_move m (Enters next code) = On (moved m next) (shown m.began (entry m.history.now code (line m.history) next)) []
 by_move m (Leaves next) = On (record (moved m next) { began = true }) (return m.history.now m.began next ∷ []) []
-by_move m (Stops stop) = Ends m stop
+by_move m (Stops stop) = Final m stop
 
 -- a step, once what is due was delivered
 abbrev pub stepped : Machine → Turn

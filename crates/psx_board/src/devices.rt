@@ -7,7 +7,7 @@ ghost use Rattle.psx_ports.specs.History;
 ghost use Rattle.psx_ports.specs.History.{History, Read, Write, then_event, at_count, answer, written};
 ghost use Rattle.psx_ports.specs.Stands.{StandsFor};
 ghost use Rattle.psx_board.specs.Delivery.{due, later, arrived, all_arrived};
-ghost use Rattle.psx_board.specs.Devices.{Kept, Carries, NotBefore};
+ghost use Rattle.psx_board.specs.Devices.{KeptDevices, Carries, NotBefore};
 
 use psx_ports::{PortDid, Ports};
 use psx_sched::{Entry, Schedule, What};
@@ -28,9 +28,9 @@ pub(crate) struct Devices {
 
 impl Model for Devices {
     ghost use Rattle.std.specs.Prelude.{drop, ◌-◌, ◌≤◌, length};
-    ghost use Rattle.psx_board.specs.Devices.{Kept, IsPlanned};
+    ghost use Rattle.psx_board.specs.Devices.{KeptDevices, IsPlanned};
 
-    ghost Value = { Kept };
+    ghost Value = { KeptDevices };
 
     ghost view = { λ d. record { ports = d.ports; waiting = drop d.place d.schedule; count = d.next - d.left } };
 

@@ -8,7 +8,7 @@ use Rattle.psx_ports.specs.Counter.{Act, SetValue, SetMode, SetTarget, TakeMode,
 use Rattle.psx_ports.specs.KeptCounter.{KeptCounter, Follows}
 use Rattle.psx_ports.specs.Interrupts.{with_pending, with_mask}
 use Rattle.psx_ports.specs.History.{History, Event, Read, Write, Raise, Give, then_event, acts_of, last_written, then_act, i_stat, due, is_counter_port}
-use Rattle.psx_ports.specs.Stands.{Kept, KeptCounters, StandsFor, CounterStands, CountersStand, least_next}
+use Rattle.psx_ports.specs.Stands.{KeptPorts, KeptCounters, StandsFor, CounterStands, CountersStand, least_next}
 use Rattle.psx_ports.proofs.Pending.{stat-same, stat-raised, stat-acknowledged}
 
 -- ---- addresses
@@ -59,7 +59,7 @@ counters-apart k events now event s same = record {
 
 -- ---- lines and bytes
 
-pub stands-raised : (k : Kept) (h : History) (line : ℕ) → StandsFor k h → line ≤ 10
+pub stands-raised : (k : KeptPorts) (h : History) (line : ℕ) → StandsFor k h → line ≤ 10
     → StandsFor (record k { interrupts = with_pending k.interrupts (bit_or k.interrupts.pending (2 ^ line)) }) (then_event h (Raise h.now line))
 stands-raised k h line s low = record {
   given = s.given;
@@ -76,7 +76,7 @@ stands-raised k h line s low = record {
   deadline = s.deadline;
 }
 
-pub stands-given : (k : Kept) (h : History) (byte : ℕ) → StandsFor k h → StandsFor (record k { console = k.console ++ byte ∷ [] }) (then_event h (Give h.now byte))
+pub stands-given : (k : KeptPorts) (h : History) (byte : ℕ) → StandsFor k h → StandsFor (record k { console = k.console ++ byte ∷ [] }) (then_event h (Give h.now byte))
 stands-given k h byte s = record {
   given = s.given;
   a = s.a;
@@ -94,7 +94,7 @@ stands-given k h byte s = record {
 
 -- ---- reads
 
-pub stands-looked : (k : Kept) (h : History) (at : ℕ) → StandsFor k h → is_counter_port at ≡ false → nat_eq at CONSOLE_DATA ≡ false → StandsFor k (then_event h (Read h.now at))
+pub stands-looked : (k : KeptPorts) (h : History) (at : ℕ) → StandsFor k h → is_counter_port at ≡ false → nat_eq at CONSOLE_DATA ≡ false → StandsFor k (then_event h (Read h.now at))
 stands-looked k h at s outside other = record {
   given = s.given;
   a = s.a;
@@ -110,7 +110,7 @@ stands-looked k h at s outside other = record {
   deadline = s.deadline;
 }
 
-pub stands-taken : (k : Kept) (h : History) → StandsFor k h → StandsFor (record k { console = drop 1 k.console }) (then_event h (Read h.now CONSOLE_DATA))
+pub stands-taken : (k : KeptPorts) (h : History) → StandsFor k h → StandsFor (record k { console = drop 1 k.console }) (then_event h (Read h.now CONSOLE_DATA))
 stands-taken k h s = record {
   given = s.given;
   a = s.a;
@@ -126,7 +126,7 @@ stands-taken k h s = record {
   deadline = s.deadline;
 }
 
-pub stands-read : (k : Kept) (h : History) (at deadline : ℕ) (counters : KeptCounters) → StandsFor k h → is_counter_port at ≡ true
+pub stands-read : (k : KeptPorts) (h : History) (at deadline : ℕ) (counters : KeptCounters) → StandsFor k h → is_counter_port at ≡ true
     → CountersStand counters (Read h.now at ∷ h.events) h.now → deadline ≡ least_next counters → StandsFor (record k { counters = counters; deadline = deadline }) (then_event h (Read h.now at))
 stands-read k h at deadline counters s inside stands least = record {
   given = s.given;
@@ -152,7 +152,7 @@ stat-written h at value other = stat-same h (Write h.now at value) refl (λ n b.
 kept : (at port value before : ℕ) → nat_eq at port ≡ false → (if nat_eq at port then value else before) ≡ before
 kept at port value before other = ap (λ b. if b then value else before) other
 
-pub stands-written : (k : Kept) (h : History) (at value deadline : ℕ) (counters : KeptCounters) → StandsFor k h → is_counter_port at ≡ true
+pub stands-written : (k : KeptPorts) (h : History) (at value deadline : ℕ) (counters : KeptCounters) → StandsFor k h → is_counter_port at ≡ true
     → CountersStand counters (Write h.now at value ∷ h.events) h.now → deadline ≡ least_next counters → StandsFor (record k { counters = counters; deadline = deadline }) (then_event h (Write h.now at value))
 stands-written k h at value deadline counters s inside stands least = record {
   given = s.given;
@@ -169,7 +169,7 @@ stands-written k h at value deadline counters s inside stands least = record {
   deadline = least;
 }
 
-pub stands-acknowledged : (k : Kept) (h : History) (value : ℕ) → StandsFor k h
+pub stands-acknowledged : (k : KeptPorts) (h : History) (value : ℕ) → StandsFor k h
     → StandsFor (record k { interrupts = with_pending k.interrupts (bit_and k.interrupts.pending value) }) (then_event h (Write h.now I_STAT value))
 stands-acknowledged k h value s = record {
   given = s.given;
@@ -186,7 +186,7 @@ stands-acknowledged k h value s = record {
   deadline = s.deadline;
 }
 
-pub stands-masked : (k : Kept) (h : History) (value : ℕ) → StandsFor k h
+pub stands-masked : (k : KeptPorts) (h : History) (value : ℕ) → StandsFor k h
     → StandsFor (record k { interrupts = with_mask k.interrupts (value % 2 ^ 11) }) (then_event h (Write h.now I_MASK value))
 stands-masked k h value s = record {
   given = s.given;
@@ -204,7 +204,7 @@ stands-masked k h value s = record {
 }
 
 -- the halt words, which the other ports leave as they are
-pub stands-kept : (k : Kept) (h : History) (at value a b c : ℕ) → StandsFor k h → is_counter_port at ≡ false → nat_eq at I_STAT ≡ false → nat_eq at I_MASK ≡ false
+pub stands-kept : (k : KeptPorts) (h : History) (at value a b c : ℕ) → StandsFor k h → is_counter_port at ≡ false → nat_eq at I_STAT ≡ false → nat_eq at I_MASK ≡ false
     → a ≡ (if nat_eq at HALT_A then value else k.a) → b ≡ (if nat_eq at HALT_B then value else k.b) → c ≡ (if nat_eq at HALT_C then value else k.c)
     → StandsFor (record k { a = a; b = b; c = c }) (then_event h (Write h.now at value))
 stands-kept k h at value a b c s outside stat mask is_a is_b is_c = record {

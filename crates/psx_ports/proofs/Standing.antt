@@ -5,7 +5,7 @@ use Rattle.psx_ports.specs.Counter.{happens, raises}
 use Rattle.psx_ports.specs.KeptCounter.{KeptCounter}
 use Rattle.psx_ports.specs.Interrupts.{with_pending}
 use Rattle.psx_ports.specs.History.{History, Event, at_count, acts_of, turned, word_of, i_stat, line}
-use Rattle.psx_ports.specs.Stands.{Kept, KeptCounters, StandsFor, CounterStands, CountersStand, least_next}
+use Rattle.psx_ports.specs.Stands.{KeptPorts, KeptCounters, StandsFor, CounterStands, CountersStand, least_next}
 use Rattle.psx_ports.proofs.Following.{follows-later, nothing-raised}
 use Rattle.psx_ports.proofs.Pending.{stat-later, stat-stays}
 
@@ -34,10 +34,10 @@ counter-later : (t : ℕ) (k : KeptCounter) (events : List Event) (now n : ℕ) 
 counter-later t k events now n s h l = record { number = s.number; follows = follows-later k (acts_of t events) now n s.follows s.ahead h l; ahead = s.ahead; later = λ a. l }
 
 -- before the deadline no line is raised
-pub stat-before : (k : Kept) (h : History) (n : ℕ) → StandsFor k h → h.now ≤ n → n < k.deadline → i_stat (at_count h n) ≡ i_stat h
+pub stat-before : (k : KeptPorts) (h : History) (n : ℕ) → StandsFor k h → h.now ≤ n → n < k.deadline → i_stat (at_count h n) ≡ i_stat h
 stat-before k h n s a b = stat-stays h n s.latest a (quiet k.counters h.events h.now n s.counters (omega (arith, s.deadline)))
 
-pub stands-before : (k : Kept) (h : History) (n : ℕ) → StandsFor k h → h.now ≤ n → n < k.deadline → StandsFor (record k { now = n }) (at_count h n)
+pub stands-before : (k : KeptPorts) (h : History) (n : ℕ) → StandsFor k h → h.now ≤ n → n < k.deadline → StandsFor (record k { now = n }) (at_count h n)
 stands-before k h n s a b = record {
   given = s.given;
   a = s.a;
@@ -58,7 +58,7 @@ stands-before k h n s a b = record {
 }
 
 -- the turns up to a count that isn't before it
-pub stands-passed : (k : Kept) (h : History) (n lines deadline : ℕ) (counters : KeptCounters) → StandsFor k h → h.now ≤ n
+pub stands-passed : (k : KeptPorts) (h : History) (n lines deadline : ℕ) (counters : KeptCounters) → StandsFor k h → h.now ≤ n
     → lines ≡ word_of (λ m. turned m h.events h.now n) 11 → CountersStand counters h.events n → deadline ≡ least_next counters
     → StandsFor (record k { counters = counters; interrupts = with_pending k.interrupts (bit_or k.interrupts.pending lines); now = n; deadline = deadline }) (at_count h n)
 stands-passed k h n lines deadline counters s a is stands least = record {
@@ -77,6 +77,6 @@ stands-passed k h n lines deadline counters s a is stands least = record {
 }
 
 -- the line is the one of the history
-pub line-kept : (k : Kept) (h : History) → StandsFor k h → k.interrupts.line ≡ line h
+pub line-kept : (k : KeptPorts) (h : History) → StandsFor k h → k.interrupts.line ≡ line h
 unfolding line
 line-kept k h s = s.line ∙ ap₂ (λ stat mask. not (nat_eq (bit_and stat mask) 0)) s.pending s.mask

@@ -35,7 +35,7 @@ pub record CountersStand (k : KeptCounters) (events : List Event) (now : ℕ) : 
 -- ---- all ports
 
 -- what the ports keep. No counter changes the interrupt line before the deadline, which is 2^64 - 1 where none is known to
-pub record Kept : Type 0 where
+pub record KeptPorts : Type 0 where
   pub given : Given
   pub a : ℕ
   pub b : ℕ
@@ -56,7 +56,7 @@ abbrev pub least_next : KeptCounters → ℕ
 least_next k = min k.zero.next (min k.one.next k.two.next)
 
 -- the ports answer as the history says, now and later
-pub record StandsFor (kept : Kept) (h : History) : Type 0 where
+pub record StandsFor (kept : KeptPorts) (h : History) : Type 0 where
   pub given : kept.given ≡ h.given
   pub a : kept.a ≡ last_written h.events HALT_A
   pub b : kept.b ≡ last_written h.events HALT_B
@@ -72,8 +72,8 @@ pub record StandsFor (kept : Kept) (h : History) : Type 0 where
 
 -- before the deadline no count changes the line
 abbrev pub LineStays : Type 0
-LineStays = (k : Kept) (h : History) (n : ℕ) → StandsFor k h → h.now ≤ n → n < k.deadline → line (at_count h n) ≡ line h
+LineStays = (k : KeptPorts) (h : History) (n : ℕ) → StandsFor k h → h.now ≤ n → n < k.deadline → line (at_count h n) ≡ line h
 
 -- the deadline is later than the last tick
 abbrev pub DeadlineIsLater : Type 0
-DeadlineIsLater = (k : Kept) (h : History) → StandsFor k h → k.now < 2 ^ 64 - 1 → k.now < k.deadline
+DeadlineIsLater = (k : KeptPorts) (h : History) → StandsFor k h → k.now < 2 ^ 64 - 1 → k.now < k.deadline

@@ -36,9 +36,9 @@ pub struct Ports {
 }
 
 impl Model for Ports {
-    ghost use Rattle.psx_ports.specs.Stands.{Kept, AreSince};
+    ghost use Rattle.psx_ports.specs.Stands.{KeptPorts, AreSince};
 
-    ghost Value = { Kept };
+    ghost Value = { KeptPorts };
 
     ghost view = { λ p. record {
       given = record { pc = p.pc; gp = p.gp; sp = p.sp; threads = p.sizes.threads; events = p.sizes.events };

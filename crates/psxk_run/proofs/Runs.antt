@@ -11,7 +11,7 @@ use Rattle.psx_cpu.specs.declared.step.Did.{Did}
 use Rattle.psx_cpu.specs.declared.step.Did.TheVariants.{Plain, PortRead, PortWrite, Entered, Left, Stopped as Barred}
 use Rattle.psx_board.specs.Delivery as delivery
 use Rattle.psx_board.specs.Machine.{Machine}
-use Rattle.psx_board.specs.Turn.{Turn, On, Ends, turn}
+use Rattle.psx_board.specs.Turn.{Turn, On, Final, turn}
 use Rattle.psx_board.specs.Run.{Outcome, run, ended, then_run}
 use Rattle.psx_board.specs.Stands.{View, Stands, Turned, WentOn, told_items, begun, console_bytes}
 use Rattle.psxk_run.specs.Texts.{trace_text, BreaksOff, Partway}
@@ -49,7 +49,7 @@ on-step : (whole : Outcome) (n : ℕ) (m : Machine) (t : Turn) (did : Did) (new 
     → Turned m t did new → WentOn did → m.began ≡ b0 → Underway whole (then_run t (run n)) before mid tty trace
     → Tells mid now tty trace (console_bytes did) (told_items m.began (delivery.line m) m.history.now did new.core) tty' trace'
     → Reached whole n new (begun b0 did) before now tty' trace'
-on-step whole n m (Ends last stop) did new b0 before mid now tty trace tty' trace' h went e u t = absurd (subst WentOn h.told went)
+on-step whole n m (Final last stop) did new b0 before mid now tty trace tty' trace' h went e u t = absurd (subst WentOn h.told went)
 on-step whole n m (On next items bytes) did new b0 before mid now tty trace tty' trace' h went e u t =
     let rest = run n next in
     let split : trace_text (items ++ rest.items) ≡ trace_text (told_items m.began (delivery.line m) m.history.now did new.core) ++ trace_text rest.items =
@@ -86,7 +86,7 @@ at-end whole last stop b before now tty trace s u =
 stop-step : (whole : Outcome) (n : ℕ) (m : Machine) (t : Turn) (stop : Stop) (new : View) (before now : Out → Option (List ℕ)) (tty trace : List ℕ)
     → Turned m t (Barred stop) new → Underway whole (then_run t (run n)) before now tty trace → Stopped whole stop new before now tty trace
 stop-step whole n m (On next items bytes) stop new before now tty trace h u = absurd h.went_on
-stop-step whole n m (Ends last stop') stop new before now tty trace h u =
+stop-step whole n m (Final last stop') stop new before now tty trace h u =
     let same : stop' ≡ stop = (let e : Barred stop ≡ Barred stop' = h.told in cc) in
     at-end whole last stop new before now tty trace h.stands (subst (λ (s : Stop). Underway whole (ended last s) before now tty trace) same u)
 
@@ -156,7 +156,7 @@ made-start m b s = record { machine = m; stands = s; further = λ more. (let sam
 
 made-step : (first m : Machine) (done : ℕ) (t : Turn) (did : Did) (new : View) → Turned m t did new → WentOn did
     → ((more : ℕ) → (run (done + suc more) first).last ≡ (then_run t (run more)).last) → Made first (done + 1) new
-made-step first m done (Ends last stop) did new h went e = absurd (subst WentOn h.told went)
+made-step first m done (Final last stop) did new h went e = absurd (subst WentOn h.told went)
 made-step first m done (On next items bytes) did new h went e = record {
   machine = next;
   stands = h.stands;

@@ -1,8 +1,9 @@
 //! The items of a step, from what the processor holds after it.
-ghost use Rattle.std.specs.Prelude.{◌≡◌, ◌+◌, ◌^◌, ◌<◌, Bool, if◌then◌else◌};
+ghost use Rattle.std.specs.Prelude.{◌≡◌, ◌+◌, ◌^◌, ◌<◌, Bool, nat_le, if◌then◌else◌};
 ghost use Rattle.psx_base.specs.Memory.{Memory};
 ghost use Rattle.psx_trace.specs.Plain.{entrance_of, item_of, registers_of};
 ghost use Rattle.psx_cpu.specs.Views.{core_of};
+ghost use Rattle.psx_base.specs.Entrances;
 ghost use Rattle.psx_board.specs.Entries;
 
 use psx_base::{Addr, Gate};
@@ -12,7 +13,7 @@ use psx_trace::{Entered, Item, Regs};
 
 // By what the kernel was entered with a code.
 fn entrance(code: u32, cpu: &Cpu) -> Entered
-    ensures { entrance_of result ≡ Entries.entrance code cpu.now.cop0 }
+    ensures { entrance_of result ≡ Entrances.entrance code (nat_le (2 ^ 31) cpu.now.cop0.cause) cpu.now.cop0.epc }
 {
     if code == 0 {
         return Entered::Interrupt;
@@ -32,7 +33,7 @@ fn entrance(code: u32, cpu: &Cpu) -> Entered
 
 // The number of an entry.
 fn number(gate: Entered, code: u32, cpu: &Cpu) -> u32
-    ensures { result ≡ Entries.number (entrance_of gate) code cpu.now.context.regs }
+    ensures { result ≡ Entrances.number (entrance_of gate) code cpu.now.context.regs }
 {
     match gate {
         Entered::A => cpu.reg(Reg(9)),
