@@ -7,33 +7,22 @@ use Rattle.std.proofs.lemmas.Bool.{and_from}
 use Rattle.std.proofs.lemmas.Bool.Decides.{nat_tests}
 use Rattle.std.proofs.lemmas.Fmt.{decimal_is_IsNumeral, length-decimal-le}
 use Rattle.psx_lex.specs.Lexeme.{is_name_byte, IsName}
-use Rattle.psx_dis.specs.Numbers.{hex_digit, hex_word}
-
--- the eight digits of a word
-abbrev pub hex_digits : ℕ → List ℕ
-hex_digits w = hex_digit (w / 2 ^ 28) ∷ hex_digit (w / 2 ^ 24 % 16) ∷ hex_digit (w / 2 ^ 20 % 16) ∷ hex_digit (w / 2 ^ 16 % 16)
-    ∷ hex_digit (w / 2 ^ 12 % 16) ∷ hex_digit (w / 2 ^ 8 % 16) ∷ hex_digit (w / 2 ^ 4 % 16) ∷ hex_digit (w % 16) ∷ []
-
-pub hex_word_is : (w : ℕ) → hex_word w ≡ 48 ∷ 120 ∷ hex_digits w
-unfolding hex_word
-hex_word_is w = refl
-
-digit_back : (d : ℕ) → d < 16 → digit_value (hex_digit d) ≡ d
-digit_back d small = grind (arith, nat_tests)
+use Rattle.psx_text.specs.Digits.{hex_digit, hex8}
+use Rattle.psx_text.proofs.HexDigits.{digit_value_is}
 
 eight_back : (a b c d e f g h : ℕ) → a < 16 → b < 16 → c < 16 → d < 16 → e < 16 → f < 16 → g < 16 → h < 16
     → AllDigits 16 (hex_digit a ∷ hex_digit b ∷ hex_digit c ∷ hex_digit d ∷ hex_digit e ∷ hex_digit f ∷ hex_digit g ∷ hex_digit h ∷ [])
     × (digits_value 16 (hex_digit a ∷ hex_digit b ∷ hex_digit c ∷ hex_digit d ∷ hex_digit e ∷ hex_digit f ∷ hex_digit g ∷ hex_digit h ∷ [])
     ≡ ((((((a * 16 + b) * 16 + c) * 16 + d) * 16 + e) * 16 + f) * 16 + g) * 16 + h)
 eight_back a b c d e f g h la lb lc ld le lf lg lh =
-    let ea = digit_back a la in
-    let eb = digit_back b lb in
-    let ec = digit_back c lc in
-    let ed = digit_back d ld in
-    let ee = digit_back e le in
-    let ef = digit_back f lf in
-    let eg = digit_back g lg in
-    let eh = digit_back h lh in
+    let ea = digit_value_is a la in
+    let eb = digit_value_is b lb in
+    let ec = digit_value_is c lc in
+    let ed = digit_value_is d ld in
+    let ee = digit_value_is e le in
+    let ef = digit_value_is f lf in
+    let eg = digit_value_is g lg in
+    let eh = digit_value_is h lh in
     (omega arith, omega arith)
 
 -- a number from its digits to the base 16
@@ -41,8 +30,9 @@ joined : (w q7 q6 q5 q4 q3 q2 q1 r6 r5 r4 r3 r2 r1 r0 : ℕ) → q6 ≡ q7 * 16 
     → w ≡ q1 * 16 + r0 → ((((((q7 * 16 + r6) * 16 + r5) * 16 + r4) * 16 + r3) * 16 + r2) * 16 + r1) * 16 + r0 ≡ w
 joined w q7 q6 q5 q4 q3 q2 q1 r6 r5 r4 r3 r2 r1 r0 e6 e5 e4 e3 e2 e1 e0 = omega arith
 
-pub hex_digits_back : (w : ℕ) → w < 2 ^ 32 → IsNumeral 16 (hex_digits w) × (digits_value 16 (hex_digits w) ≡ w)
-hex_digits_back w small =
+pub hex8_back : (w : ℕ) → w < 2 ^ 32 → IsNumeral 16 (hex8 w) × (digits_value 16 (hex8 w) ≡ w)
+unfolding hex8
+hex8_back w small =
     let back = eight_back (w / 2 ^ 28) (w / 2 ^ 24 % 16) (w / 2 ^ 20 % 16) (w / 2 ^ 16 % 16) (w / 2 ^ 12 % 16) (w / 2 ^ 8 % 16) (w / 2 ^ 4 % 16) (w % 16)
     (omega arith) (omega arith) (omega arith) (omega arith) (omega arith) (omega arith) (omega arith) (omega arith) in (
       (omega arith, back.0),

@@ -1,5 +1,5 @@
 -- What is printed of an instruction or a word has no line feed.
-use Rattle.std.proofs.Common.{◌≡◌, ℕ, ◌-◌, ◌<◌, ◌≤◌, ◌^◌, Bool, true, false, not, ◌==◌, nat_lt, List, [], ◌∷◌, ◌++◌, All, refl, sym, subst, ◌∙◌, decimal, codes, arith}
+use Rattle.std.proofs.Common.{◌≡◌, ℕ, ◌-◌, ◌<◌, ◌≤◌, ◌^◌, Bool, true, false, not, ◌==◌, nat_lt, List, [], ◌∷◌, ◌++◌, All, refl, ◌∙◌, decimal, codes, arith}
 use Rattle.std.specs.Char.{digit_value}
 use Rattle.std.specs.List.{list_all}
 use Rattle.std.specs.Str.Parse.{AllDigits}
@@ -14,9 +14,10 @@ use Rattle.psx_dis.specs.declared.operands.Operand.TheVariants.{Register, Number
 use Rattle.psx_dis.specs.declared.operands.Operands.{Operands}
 use Rattle.psx_dis.specs.declared.operands.Operands.TheVariants.{Nothing, One, Two, Three}
 use Rattle.psx_dis.specs.Mnemonics.{mnemonic}
+use Rattle.psx_text.specs.Digits.{hex8}
 use Rattle.psx_dis.specs.Numbers.{hex_word, signed_text}
 use Rattle.psx_dis.specs.Printed.{register_text, operand_text, operands_text, word_text}
-use Rattle.psx_dis.proofs.Digits.{hex_digits, hex_word_is, hex_digits_back, decimal_back}
+use Rattle.psx_dis.proofs.Digits.{hex8_back, decimal_back}
 use Rattle.psx_dis.proofs.SpelledLines.{OperandFits, OperandsFit}
 
 abbrev no_feed : ℕ → Bool
@@ -46,7 +47,7 @@ decimal_no_feed : (n : ℕ) → n < 2 ^ 32 → IsOneLine (decimal n)
 decimal_no_feed n small = digits_no_feed 10 (decimal n) (omega arith) (decimal_back n small).0.1
 
 hex_no_feed : (w : ℕ) → w < 2 ^ 32 → IsOneLine (hex_word w)
-hex_no_feed w small = subst IsOneLine (sym (hex_word_is w)) (digits_no_feed 16 (hex_digits w) (omega arith) (hex_digits_back w small).0.1)
+hex_no_feed w small = digits_no_feed 16 (hex8 w) (omega arith) (hex8_back w small).0.1
 
 signed_no_feed : (imm : ℕ) → imm < 2 ^ 16 → IsOneLine (signed_text imm)
 signed_no_feed imm small = cond_both (nat_lt imm (2 ^ 15)) (decimal imm) (codes "-" ++ decimal (2 ^ 16 - imm)) IsOneLine (λ low. decimal_no_feed imm (omega arith)) (λ high. decimal_no_feed (2 ^ 16 - imm) (omega arith))

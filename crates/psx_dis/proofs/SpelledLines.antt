@@ -15,11 +15,12 @@ use Rattle.psx_dis.specs.declared.operands.Operand.{Operand}
 use Rattle.psx_dis.specs.declared.operands.Operand.TheVariants.{Register, Number, Signed, Place, Target}
 use Rattle.psx_dis.specs.declared.operands.Operands.{Operands}
 use Rattle.psx_dis.specs.declared.operands.Operands.TheVariants.{Nothing, One, Two, Three}
+use Rattle.psx_text.specs.Digits.{hex8}
 use Rattle.psx_dis.specs.Numbers.{hex_word, signed_text}
 use Rattle.psx_dis.specs.Printed.{register_text, operand_text, operands_text, word_text}
 use Rattle.psx_dis.proofs.Spelling.{Spelled, spelled_text, AreSpelled}
 use Rattle.psx_dis.proofs.Words.{IsParted, name_token, directive_token, mark_token, decimal_token, minus_token, hex_token}
-use Rattle.psx_dis.proofs.Digits.{hex_digits, hex_word_is, hex_digits_back, decimal_back, register_is_name}
+use Rattle.psx_dis.proofs.Digits.{hex8_back, decimal_back, register_is_name}
 
 abbrev pub spelled : List ℕ → List ℕ → Kind → Spelled
 spelled before word kind = record { before = before; word = word; kind = kind }
@@ -77,10 +78,9 @@ signed_begins imm rest small parted = ⊎_elim
 
 hex_begins : (w : ℕ) (rest : List ℕ) → w < 2 ^ 32 → IsParted rest → BeginsToken (hex_word w ++ rest) (Numeral (pos w)) (length (hex_word w))
 hex_begins w rest small parted =
-    let back = hex_digits_back w small in
-    subst (λ (t : List ℕ). BeginsToken (t ++ rest) (Numeral (pos w)) (length t)) (sym (hex_word_is w))
-    (subst (λ (m : ℕ). BeginsToken (48 ∷ 120 ∷ (hex_digits w ++ rest)) (Numeral (pos m)) (length (48 ∷ 120 ∷ hex_digits w))) back.1
-    (hex_token (hex_digits w) rest back.0 (omega (arith, back.1)) parted))
+    let back = hex8_back w small in
+    subst (λ (m : ℕ). BeginsToken (48 ∷ 120 ∷ (hex8 w ++ rest)) (Numeral (pos m)) (length (48 ∷ 120 ∷ hex8 w))) back.1
+    (hex_token (hex8 w) rest back.0 (omega (arith, back.1)) parted)
 
 operand_are : (before : List ℕ) (a : Operand) (ps : List Spelled) → list_all is_blank before ≡ true → OperandFits a → IsParted (spelled_text ps) → AreSpelled ps → AreSpelled (spelled_operand before a ps)
 operand_are before (Register r) ps blank fits parted are = (blank, register_begins r (spelled_text ps) fits parted, are)

@@ -1,37 +1,26 @@
 //! Writers of numbers and operands. Each appends to a text, which after an error is of no use.
 ghost use Rattle.std.specs.Prelude.{◌≡◌, ◌<◌, ◌++◌, ◌∷◌, [], OnOk, decimal, codes};
 ghost use Rattle.std.specs.String.{string_bytes};
-ghost use Rattle.psx_dis.specs.Numbers.{hex_digit, hex_word, signed_text};
+ghost use Rattle.psx_text.specs.Digits.{hex_digit};
+ghost use Rattle.psx_dis.specs.Numbers.{hex_word, signed_text};
 ghost use Rattle.psx_dis.specs.Printed.{register_text, operand_text, operands_text};
 
 use crate::operands::{Operand, Operands};
 use itoa::Buffer;
 use psx_ins::reg::Reg;
+use psx_text::hex_digit;
 use std::alloc::AllocError;
-
-// A digit below 16, with capitals.
-fn digit_of(digit: u32) -> u8
-    requires { digit < 16 }
-    ensures digit { result ≡ hex_digit digit }
-    ensures ascii { result < 128 }
-{
-    if digit < 10 {
-        b'0' + digit as u8
-    } else {
-        b'A' - 10 + digit as u8
-    }
-}
 
 // Appends a digit.
 fn put_digit(text: &mut String, digit: u32) -> Result<(), AllocError>
     requires { digit < 16 }
     ensures { OnOk result (string_bytes text.new ≡ string_bytes text.old ++ hex_digit digit ∷ []) }
 {
-    text.push(digit_of(digit) as char)
+    text.push(hex_digit(digit) as char)
 }
 
 /// Appends a word in eight hexadecimal digits with capitals behind 0x.
-#[tactic(auto, unfolding(crate::specs::Numbers::hex_word))]
+#[tactic(auto, unfolding(psx_text::specs::Digits::hex8))]
 pub(crate) fn put_word(text: &mut String, word: u32) -> Result<(), AllocError>
     ensures { OnOk result (string_bytes text.new ≡ string_bytes text.old ++ hex_word word) }
 {

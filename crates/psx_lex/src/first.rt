@@ -3,9 +3,10 @@ ghost use Rattle.std.specs.Prelude.{◌≡◌, ◌≤◌, true, IfSome, IfNone, 
 ghost use Rattle.psx_lex.specs.Lexeme.{is_name_start, BeginsToken, BeginsNone};
 ghost use Rattle.psx_lex.specs.Magnitude.{BeginsNoOther};
 
-use crate::bytes::{byte_at, is_escape, is_mark, is_start, name_len, skip};
+use crate::bytes::{is_escape, is_mark, is_start, name_len};
 use crate::number::magnitude;
 use crate::token::Kind;
+use psx_text::{byte_at, skip};
 
 /// The kind of a token, and how many bytes it has.
 #[derive(Clone, Copy)]

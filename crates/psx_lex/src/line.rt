@@ -4,9 +4,9 @@ ghost use Rattle.psx_lex.specs.declared.token.Token.{Token};
 ghost use Rattle.psx_lex.specs.declared.token.LexError.{LexError};
 ghost use Rattle.psx_lex.specs.Line.{is_blank, IsTokensOf, HasOneAnswer};
 
-use crate::bytes::{byte_at, skip};
 use crate::first::first_token;
 use crate::token::{LexError, Token};
+use psx_text::{byte_at, skip};
 use std::alloc::Global;
 
 // Whether a byte parts tokens.

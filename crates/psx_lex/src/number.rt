@@ -5,7 +5,8 @@ ghost use Rattle.std.specs.Option.{SomeIff};
 ghost use Rattle.std.specs.Str.Parse.{IsNumeral, digits_value};
 ghost use Rattle.psx_lex.specs.Magnitude.{IsLongestMagnitude, HasNoMagnitude};
 
-use crate::bytes::{byte_at, digits_len, front, hex_len, skip};
+use crate::bytes::hex_len;
+use psx_text::{byte_at, digits_len, front, skip};
 use std::str;
 
 /// A number without its sign, and how many bytes it has.

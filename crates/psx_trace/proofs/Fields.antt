@@ -1,7 +1,8 @@
 -- The words of a text in which each stands behind a space.
 use Rattle.std.proofs.Common.{◌≡◌, ℕ, zero, suc, ◌+◌, ◌*◌, ◌<◌, List, [], ◌∷◌, ◌++◌, length, drop, get_or, refl, sym, ap, ◌∙◌, arith}
 use Rattle.std.proofs.lemmas.List.{drop-drop}
-use Rattle.psx_trace.specs.Digits.{hex8, field, fields}
+use Rattle.psx_text.specs.Digits.{hex8}
+use Rattle.psx_trace.specs.Digits.{field, fields}
 
 -- the word of a number stands nine bytes behind the one before it
 pub drop_fields : (i : ℕ) (words rest : List ℕ) → i < length words → (tail : List ℕ) × (drop (9 * i) (fields words ++ rest) ≡ field (get_or words i 0) ++ tail)

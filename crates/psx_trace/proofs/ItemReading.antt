@@ -9,7 +9,8 @@ use Rattle.psx_trace.specs.declared.item.Entered.TheVariants.{A, B as TableB, C,
 use Rattle.psx_trace.specs.declared.item.Item.{Item}
 use Rattle.psx_trace.specs.declared.item.Item.TheVariants.{B, E, R, W, X, S}
 use Rattle.psx_trace.specs.declared.item.Regs.{Regs}
-use Rattle.psx_trace.specs.Digits.{hex8, field, fields, mark}
+use Rattle.psx_text.specs.Digits.{hex8}
+use Rattle.psx_trace.specs.Digits.{field, fields, mark}
 use Rattle.psx_trace.specs.Line.{head, gate_letter, item_text, line}
 use Rattle.psx_trace.specs.Plain.{entrance_of, item_of}
 use Rattle.psx_trace.specs.Reading.{IsWord, IsItem, BeginsWith}

@@ -1,20 +1,15 @@
 -- A stop is read from its text.
-use Rattle.std.proofs.Common.{◌≡◌, ℕ, ◌+◌, ◌*◌, ◌/◌, ◌%◌, ◌-◌, ◌^◌, ◌<◌, List, ◌∷◌, ◌++◌, drop, slice_index, cond, nat_lt, ◌==◌, refl, ap, ◌∙◌, arith}
-use Rattle.std.proofs.lemmas.Bool.Decides.{nat_tests}
+use Rattle.std.proofs.Common.{◌≡◌, ℕ, ◌+◌, ◌*◌, ◌/◌, ◌%◌, ◌^◌, List, ◌∷◌, ◌++◌, drop, slice_index, cond, ◌==◌, refl, ap, ◌∙◌, arith}
 use Rattle.psx_base.specs.declared.stop.Stop.{Stop}
 use Rattle.psx_base.specs.declared.stop.Stop.TheVariants.{Exit, Budget, UserFetch, UserData, Protected, SlotBranch, Exception, Unserved, BadPointer, BadThread, Deep, BadReturn}
 use Rattle.psx_base.specs.declared.stop.Table.{Table}
 use Rattle.psx_base.specs.declared.stop.Table.TheVariants.{A, B, C, Sys}
-use Rattle.psx_trace.specs.Digits.{hex_digit, hex8, field}
+use Rattle.psx_text.specs.Digits.{hex8}
+use Rattle.psx_text.proofs.HexDigits.{digit_read, digit_read_is}
+use Rattle.psx_trace.specs.Digits.{field}
 use Rattle.psx_trace.specs.Reading.{IsWord, IsStop}
 use Rattle.psx_trace.specs.StopText.{table_letter, stop_text}
 use Rattle.psx_trace.proofs.WordDigits.{high_digits, low_digits}
-
-abbrev digit_read : ℕ → ℕ
-digit_read c = cond (nat_lt c 65) (c % 16) ((c - 55) % 16)
-
-digit_read_is : (d : ℕ) → d < 16 → digit_read (hex_digit d) ≡ d
-digit_read_is d small = grind (arith, nat_tests)
 
 -- the word behind a space
 pub word_read : List ℕ → ℕ

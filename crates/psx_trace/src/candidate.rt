@@ -8,7 +8,8 @@ ghost use Rattle.psx_trace.specs.Plain.{entrance_of};
 ghost use Rattle.psx_trace.specs.Reading.{IsWord, IsItem};
 
 use crate::item::{Entered, Item, Regs};
-use crate::parts::{byte_at, word_after};
+use crate::parts::word_after;
+use psx_text::byte_at;
 
 // The entrance of a letter.
 fn gate_of(letter: u8) -> Entered

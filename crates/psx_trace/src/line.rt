@@ -8,8 +8,9 @@ ghost use Rattle.psx_trace.specs.StopText.{stop_text};
 
 use crate::item::{Entered, Item, Regs};
 use crate::stops::stop_text;
-use crate::text::{TraceLine, put, put_count, put_field, put_mark};
+use crate::text::{TraceLine, put_count, put_field, put_mark};
 use psx_base::Stop;
+use psx_text::put;
 
 // The letter of an entrance.
 fn gate_letter(gate: Entered) -> u8

@@ -12,8 +12,9 @@ ghost use Rattle.psx_base.specs.declared.stop.Table.{Table};
 use crate::candidate::{entry_of, read_of, return_of, write_of};
 use crate::item::Item;
 use crate::line::line_of;
-use crate::parts::{byte_at, count_of, digits_len, front, skip, word_after};
+use crate::parts::word_after;
 use psx_base::{Stop, Table};
+use psx_text::{byte_at, count_of, digits_len, front, skip};
 use std::alloc::Global;
 
 /// Why a text isn't a trace.

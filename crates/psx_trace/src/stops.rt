@@ -4,9 +4,10 @@ ghost use Rattle.arrayvec.specs.ArrayVec.{array_vec_len};
 ghost use Rattle.psx_trace.specs.Digits.{field, mark};
 ghost use Rattle.psx_trace.specs.StopText.{table_letter, stop_text};
 
-use crate::text::{put, put_field, put_mark};
+use crate::text::{put_field, put_mark};
 use arrayvec::ArrayVec;
 use psx_base::{Stop, Table};
+use psx_text::put;
 
 /// The bytes of a stop's text. The longest text has 28.
 pub type StopText = ArrayVec<u8, 64>;

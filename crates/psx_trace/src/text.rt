@@ -1,38 +1,16 @@
 //! Writers of a text of fixed room: bytes, letters, words and counts.
-ghost use Rattle.std.specs.Prelude.{◌≡◌, ◌≤◌, ◌<◌, ◌+◌, ◌^◌, ℕ, [], ◌∷◌, ◌++◌, length, decimal};
+ghost use Rattle.std.specs.Prelude.{◌≡◌, ◌≤◌, ◌+◌, ◌++◌, length, decimal};
 ghost use Rattle.arrayvec.specs.ArrayVec.{array_vec_len};
-ghost use Rattle.psx_trace.specs.Digits.{hex_digit, hex8, field, mark};
+ghost use Rattle.psx_trace.specs.Digits.{field, mark};
 
 use arrayvec::ArrayVec;
+use psx_text::{hex_digit, put};
 
 /// The bytes of a line. The longest line has 338.
 pub type TraceLine = ArrayVec<u8, 384>;
 
-/// Appends bytes for which there is room.
-pub fn put<const N: usize>(text: &mut ArrayVec<u8, N>, bytes: &[u8])
-    requires { array_vec_len text.old + length bytes.now ≤ N }
-    ensures items { text.new.items ≡ text.old.items ++ bytes.now }
-    ensures len { array_vec_len text.new ≡ array_vec_len text.old + length bytes.now }
-{
-    if text.try_extend_from_slice(bytes).is_err() {
-        unreachable!();
-    }
-}
-
-// A digit below 16, with capitals.
-fn digit_of(digit: u32) -> u8
-    requires { digit < 16 }
-    ensures { result ≡ hex_digit digit }
-{
-    if digit < 10 {
-        b'0' + digit as u8
-    } else {
-        b'A' - 10 + digit as u8
-    }
-}
-
 /// Appends a space and a word in eight hexadecimal digits with capitals.
-#[tactic(auto, unfolding(crate::specs::Digits::hex8))]
+#[tactic(auto, unfolding(psx_text::specs::Digits::hex8))]
 pub fn put_field<const N: usize>(text: &mut ArrayVec<u8, N>, word: u32)
     requires { array_vec_len text.old + 9 ≤ N }
     ensures items { text.new.items ≡ text.old.items ++ field word }
@@ -42,14 +20,14 @@ pub fn put_field<const N: usize>(text: &mut ArrayVec<u8, N>, word: u32)
         text,
         &[
             b' ',
-            digit_of(word / 0x1000_0000),
-            digit_of(word / 0x100_0000 % 16),
-            digit_of(word / 0x10_0000 % 16),
-            digit_of(word / 0x1_0000 % 16),
-            digit_of(word / 0x1000 % 16),
-            digit_of(word / 0x100 % 16),
-            digit_of(word / 0x10 % 16),
-            digit_of(word % 16),
+            hex_digit(word / 0x1000_0000),
+            hex_digit(word / 0x100_0000 % 16),
+            hex_digit(word / 0x10_0000 % 16),
+            hex_digit(word / 0x1_0000 % 16),
+            hex_digit(word / 0x1000 % 16),
+            hex_digit(word / 0x100 % 16),
+            hex_digit(word / 0x10 % 16),
+            hex_digit(word % 16),
         ],
     );
 }

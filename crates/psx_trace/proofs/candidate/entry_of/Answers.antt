@@ -1,5 +1,6 @@
 use Rattle.std.proofs.Common.{◌∙◌, ◌++◌, ap, drop, slice_index}
-use Rattle.psx_trace.specs.Digits.{hex8, field, mark}
+use Rattle.psx_text.specs.Digits.{hex8}
+use Rattle.psx_trace.specs.Digits.{field, mark}
 use Rattle.psx_trace.specs.Line.{gate_letter}
 use Rattle.psx_trace.specs.Plain.{entrance_of}
 use Rattle.psx_trace.proofs.candidate.entry_of.Goals as goal

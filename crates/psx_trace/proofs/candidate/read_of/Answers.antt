@@ -1,5 +1,6 @@
 use Rattle.std.proofs.Common.{◌++◌, ap, drop}
-use Rattle.psx_trace.specs.Digits.{hex8, field}
+use Rattle.psx_text.specs.Digits.{hex8}
+use Rattle.psx_trace.specs.Digits.{field}
 use Rattle.psx_trace.proofs.candidate.read_of.Goals as goal
 
 pub returns-clause-value : goal.returns-clause-value

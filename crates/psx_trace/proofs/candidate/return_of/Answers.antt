@@ -1,5 +1,6 @@
 use Rattle.std.proofs.Common.{◌++◌, ap, drop}
-use Rattle.psx_trace.specs.Digits.{hex8, field, fields}
+use Rattle.psx_text.specs.Digits.{hex8}
+use Rattle.psx_trace.specs.Digits.{field, fields}
 use Rattle.psx_trace.proofs.candidate.return_of.Goals as goal
 
 pub returns-clause-value : goal.returns-clause-value

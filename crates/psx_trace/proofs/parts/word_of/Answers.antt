@@ -1,5 +1,5 @@
 use Rattle.std.proofs.Common.{◌≡◌, ℕ, ◌∷◌, ◌++◌, ◌/◌, ◌%◌, ◌^◌, arith, ap, slice_index}
-use Rattle.psx_trace.specs.Digits.{hex8}
+use Rattle.psx_text.specs.Digits.{hex8}
 use Rattle.psx_trace.proofs.WordDigits.{high_digits, low_digits}
 use Rattle.psx_trace.proofs.parts.word_of.Goals as goal
 

@@ -1,6 +1,7 @@
 use Rattle.std.proofs.Common.{◌∙◌, ◌++◌, ap, drop, slice_index, refl, lit<}
 use Rattle.psx_base.specs.declared.stop.Stop.TheVariants.{Exit, Budget, UserFetch, UserData, Protected, SlotBranch, Exception, Unserved, BadPointer, BadThread, Deep, BadReturn}
-use Rattle.psx_trace.specs.Digits.{hex8, field}
+use Rattle.psx_text.specs.Digits.{hex8}
+use Rattle.psx_trace.specs.Digits.{field}
 use Rattle.psx_trace.specs.StopText.{stop_text}
 use Rattle.psx_trace.proofs.StopsFit.{tried_fit}
 use Rattle.psx_trace.proofs.read.stops_of.Goals as goal
