@@ -1,3 +1,4 @@
+pub mod Search
 pub mod Moved
 pub mod Entries
 pub mod Ends

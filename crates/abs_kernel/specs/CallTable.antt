@@ -1,60 +1,56 @@
--- The calls that are served, with their numbers, arguments and names (PSX-SPX, Kernel (BIOS), function summary).
-use Rattle.std.specs.Prelude.{ℕ, Bool, nat_eq, codes, List, [], ◌∷◌, Option, Some, None, if◌then◌else◌}
+-- The calls that are served, read from the rows (PSX-SPX, Kernel (BIOS), function summary).
+use Rattle.std.specs.Prelude.{◌≡◌, ℕ, ◌+◌, ◌*◌, ◌^◌, nat_eq, nat_lt, Bool, true, false, ◌&&◌, List, [], ◌∷◌, Option, option_map, unwrap_or, find, count_by, All}
 use Rattle.psx_base.specs.declared.stop.Table.{Table}
 use Rattle.psx_base.specs.declared.stop.Table.TheVariants.{A, B, C, Sys}
+use Rattle.psx_base.specs.contracts.stop.TablePartialEq.TheImpl as tables
 use Rattle.abs_kernel.specs.declared.calls.CallId.{CallId}
-use Rattle.abs_kernel.specs.declared.calls.CallId.TheVariants.{A06, A2B, A2E, A2F, A30, A3A, A3C, A3E, B38, B3D, B3F}
-use Rattle.abs_kernel.specs.contracts.calls.CallIdPartialEq.TheImpl as id_eq
+use Rattle.abs_kernel.specs.declared.calls.TheConstants.{ROWS}
+use Rattle.abs_kernel.specs.contracts.calls.CallIdPartialEq.TheImpl as calls
 
--- the rows of each table: a number and its call
-abbrev pub calls_of_a : List (ℕ × CallId)
-calls_of_a = (0x06, A06) ∷ (0x2B, A2B) ∷ (0x2E, A2E) ∷ (0x2F, A2F) ∷ (0x30, A30) ∷ (0x3A, A3A) ∷ (0x3C, A3C) ∷ (0x3E, A3E) ∷ []
+-- a table, a number, its call, how many arguments it takes, and its name
+abbrev pub Row : Type 0
+Row = Table × ℕ × CallId × ℕ × record { now : List ℕ }
 
-abbrev pub calls_of_b : List (ℕ × CallId)
-calls_of_b = (0x38, B38) ∷ (0x3D, B3D) ∷ (0x3F, B3F) ∷ []
+abbrev pub same_table : Table → Table → Bool
+same_table t u = tables.ghosts.eq t u
 
--- a SYSCALL's number is none of a call
-abbrev pub calls_of : Table → List (ℕ × CallId)
-calls_of A = calls_of_a
-calls_of B = calls_of_b
-calls_of C = []
-calls_of Sys = []
-
--- the call of a number among rows
-abbrev pub call_in : List (ℕ × CallId) → ℕ → Option CallId
-call_in [] number = None
-call_in (row ∷ rows) number = if nat_eq number row.0 then Some row.1 else call_in rows number
+abbrev pub same_call : CallId → CallId → Bool
+same_call i j = calls.ghosts.eq i j
 
 -- the call that a table has at a number
 abbrev pub served_call : Table → ℕ → Option CallId
-served_call table number = call_in (calls_of table) number
-
-abbrev pub same_call : CallId → CallId → Bool
-same_call a b = id_eq.ghosts.eq a b
+served_call table number = option_map (λ (row : Row). row.2) (find (λ (row : Row). same_table row.0 table && nat_eq row.1 number) ROWS)
 
 -- how many arguments a call takes
 abbrev pub arguments : CallId → ℕ
-arguments A06 = 1
-arguments A2B = 3
-arguments A2E = 3
-arguments A2F = 0
-arguments A30 = 1
-arguments A3A = 1
-arguments A3C = 1
-arguments A3E = 1
-arguments B38 = 1
-arguments B3D = 1
-arguments B3F = 1
+arguments id = unwrap_or (option_map (λ (row : Row). row.3) (find (λ (row : Row). same_call row.2 id) ROWS)) 0
 
+-- a call's name
 abbrev pub name_of : CallId → List ℕ
-name_of A06 = codes "exit"
-name_of A2B = codes "memset"
-name_of A2E = codes "memchr"
-name_of A2F = codes "rand"
-name_of A30 = codes "srand"
-name_of A3A = codes "_exit"
-name_of A3C = codes "putchar"
-name_of A3E = codes "puts"
-name_of B38 = codes "exit"
-name_of B3D = codes "putchar"
-name_of B3F = codes "puts"
+name_of id = unwrap_or (option_map (λ (row : Row). row.4.now) (find (λ (row : Row). same_call row.2 id) ROWS)) []
+
+-- ---- what holds of the rows
+
+-- the place of a row in the order: by table, then by number
+abbrev pub place_of_table : Table → ℕ
+place_of_table A = 0
+place_of_table B = 1
+place_of_table C = 2
+place_of_table Sys = 3
+
+abbrev pub place_of_row : Row → ℕ
+place_of_row row = place_of_table row.0 * 2 ^ 32 + row.1
+
+-- each row comes behind the one before it
+abbrev pub rising : List Row → Bool
+rising [] = true
+rising (row ∷ []) = true
+rising (row ∷ next ∷ rows) = nat_lt (place_of_row row) (place_of_row next) && rising (next ∷ rows)
+
+-- each call has exactly one row
+abbrev pub OneEach : List Row → Type 0
+OneEach rows = (id : CallId) → count_by (λ (row : Row). same_call row.2 id) rows ≡ 1
+
+-- no row is a SYSCALL's
+abbrev pub OfCalls : List Row → Type 0
+OfCalls rows = All (λ (row : Row). same_table row.0 Sys ≡ false) rows

@@ -1,5 +1,5 @@
 //! The calls by their tables and numbers (PSX-SPX, Kernel (BIOS), function summary).
-ghost use Rattle.std.specs.Prelude.{◌≡◌};
+ghost use Rattle.std.specs.Prelude.{◌≡◌, IsTrue};
 ghost use Rattle.abs_kernel.specs.CallTable;
 
 use psx_base::Table;
@@ -9,6 +9,10 @@ use psx_base::Table;
 pub enum CallId {
     /// exit(code): the program ends with a code.
     A06,
+    /// strlen(s): the number of bytes before the zero.
+    A1B,
+    /// memcpy(d, s, n): copies n bytes, and answers d.
+    A2A,
     /// memset(d, c, n): writes a byte n times, and answers d.
     A2B,
     /// memchr(s, c, n): the address of the first of n bytes that is c, or 0.
@@ -31,42 +35,42 @@ pub enum CallId {
     B3F,
 }
 
-fn served_in_a(number: u32) -> Option<CallId>
-    ensures { result ≡ CallTable.call_in CallTable.calls_of_a number }
-{
-    match number {
-        0x06 => Some(CallId::A06),
-        0x2B => Some(CallId::A2B),
-        0x2E => Some(CallId::A2E),
-        0x2F => Some(CallId::A2F),
-        0x30 => Some(CallId::A30),
-        0x3A => Some(CallId::A3A),
-        0x3C => Some(CallId::A3C),
-        0x3E => Some(CallId::A3E),
-        _ => None,
-    }
-}
+/// A row of the calls: its table, its number in r9, the call, how many arguments it takes, and its name.
+pub type Row = (Table, u32, CallId, u32, &'static str);
 
-fn served_in_b(number: u32) -> Option<CallId>
-    ensures { result ≡ CallTable.call_in CallTable.calls_of_b number }
-{
-    match number {
-        0x38 => Some(CallId::B38),
-        0x3D => Some(CallId::B3D),
-        0x3F => Some(CallId::B3F),
-        _ => None,
-    }
-}
+/// The calls that are served, by table and number. A call stands here and nowhere else: what a number means, a call's arguments and its name are read from this list.
+pub const ROWS: [Row; 13] = [
+    (Table::A, 0x06, CallId::A06, 1, "exit"),
+    (Table::A, 0x1B, CallId::A1B, 1, "strlen"),
+    (Table::A, 0x2A, CallId::A2A, 3, "memcpy"),
+    (Table::A, 0x2B, CallId::A2B, 3, "memset"),
+    (Table::A, 0x2E, CallId::A2E, 3, "memchr"),
+    (Table::A, 0x2F, CallId::A2F, 0, "rand"),
+    (Table::A, 0x30, CallId::A30, 1, "srand"),
+    (Table::A, 0x3A, CallId::A3A, 1, "_exit"),
+    (Table::A, 0x3C, CallId::A3C, 1, "putchar"),
+    (Table::A, 0x3E, CallId::A3E, 1, "puts"),
+    (Table::B, 0x38, CallId::B38, 1, "exit"),
+    (Table::B, 0x3D, CallId::B3D, 1, "putchar"),
+    (Table::B, 0x3F, CallId::B3F, 1, "puts"),
+];
+
+/// The rows stand in rising order of table and number, so no number has two. Each call has exactly one row, and no row is a SYSCALL's.
+///
+/// It does nothing: its contract is the law.
+pub fn rows()
+    ensures rising { IsTrue (CallTable.rising ROWS) }
+    ensures one_each { CallTable.OneEach ROWS }
+    ensures of_calls { CallTable.OfCalls ROWS }
+{}
 
 /// The call that a table has at a number, which is the whole of r9. None where it has no row, so always for SYSCALLs.
 pub fn served(table: Table, number: u32) -> Option<CallId>
     ensures { result ≡ CallTable.served_call table number }
 {
-    match table {
-        Table::A => served_in_a(number),
-        Table::B => served_in_b(number),
-        Table::C => None,
-        Table::Sys => None,
+    match ROWS.iter().find(|row| row.0 == table && row.1 == number) {
+        Some(row) => Some(row.2),
+        None => None,
     }
 }
 
@@ -74,18 +78,9 @@ pub fn served(table: Table, number: u32) -> Option<CallId>
 pub fn args(id: CallId) -> u32
     ensures { result ≡ CallTable.arguments id }
 {
-    match id {
-        CallId::A06 => 1,
-        CallId::A2B => 3,
-        CallId::A2E => 3,
-        CallId::A2F => 0,
-        CallId::A30 => 1,
-        CallId::A3A => 1,
-        CallId::A3C => 1,
-        CallId::A3E => 1,
-        CallId::B38 => 1,
-        CallId::B3D => 1,
-        CallId::B3F => 1,
+    match ROWS.iter().find(|row| row.2 == id) {
+        Some(row) => row.3,
+        None => 0,
     }
 }
 
@@ -93,17 +88,8 @@ pub fn args(id: CallId) -> u32
 pub fn name(id: CallId) -> &'static str
     ensures { result.now ≡ CallTable.name_of id }
 {
-    match id {
-        CallId::A06 => "exit",
-        CallId::A2B => "memset",
-        CallId::A2E => "memchr",
-        CallId::A2F => "rand",
-        CallId::A30 => "srand",
-        CallId::A3A => "_exit",
-        CallId::A3C => "putchar",
-        CallId::A3E => "puts",
-        CallId::B38 => "exit",
-        CallId::B3D => "putchar",
-        CallId::B3F => "puts",
+    match ROWS.iter().find(|row| row.2 == id) {
+        Some(row) => row.4,
+        None => "",
     }
 }

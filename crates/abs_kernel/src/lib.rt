@@ -9,4 +9,4 @@ pub mod laws;
 #[cfg(test)]
 mod tests;
 
-pub use calls::{CallId, args, name, served};
+pub use calls::{CallId, ROWS, Row, args, name, rows, served};

@@ -1,14 +1,15 @@
 -- The calls: from the number to the routine that the table has for it.
 use Rattle.psx_flow.proofs.Kit.{◌≡◌, ℕ, ◌+◌, ◌*◌, ◌%◌, ◌^◌, ◌<◌, ◌≤◌, false, refl, sym, ap, ◌∙◌, arith, ⊎_elim, [], Memory, Registers, Cop0, Run, Access, Meets, calls, kernel_words, fair, start, word_sort}
 use Rattle.std.proofs.Common.{Bool, true, List, ◌∷◌, Option, Some, None}
-use Rattle.std.specs.Prelude.{nat_lt, ◌&&◌, if◌then◌else◌}
+use Rattle.std.specs.Prelude.{nat_eq, nat_lt, ◌&&◌, if◌then◌else◌, cond, find, option_map}
 use Rattle.std.proofs.lemmas.Bool.{cases_lt, lt-ltb, ltb-true, and_parts, ne_eqb}
 use Rattle.psx_base.specs.declared.stop.Table.{Table}
 use Rattle.psx_base.specs.declared.stop.Table.TheVariants.{A, B, C}
 use Rattle.psx_flow.specs.Told.{ports}
 use Rattle.psx_flow.proofs.Log.{Code}
 use Rattle.abs_kernel.specs.declared.calls.CallId.{CallId}
-use Rattle.abs_kernel.specs.CallTable.{calls_of_a, calls_of_b, call_in, served_call}
+use Rattle.abs_kernel.specs.declared.calls.TheConstants.{ROWS}
+use Rattle.abs_kernel.specs.CallTable.{Row, same_table, served_call}
 use Rattle.kern_entry.specs.declared.places.TheConstants.{CALL_A, CALL_B, CALL_C, UNSERVED}
 use Rattle.kern_entry.specs.declared.calls.TheConstants.{CALL_A_NODES, CALL_B_NODES, CALL_C_NODES}
 use Rattle.kern_entry.specs.EntryWords.{tree}
@@ -26,25 +27,34 @@ some_there at None v e ne = absurd (ne e)
 some_there at (Some id) v e ne = e
 
 -- no call has a number behind its table
-abbrev below : ℕ → List (ℕ × CallId) → Bool
-below count [] = true
-below count (r ∷ rs) = nat_lt r.0 count && below count rs
+abbrev number_in : Table → Row → ℕ
+number_in table row = if same_table row.0 table then row.1 else 0
 
-none_behind : (rows : List (ℕ × CallId)) (count n : ℕ) → below count rows ≡ true → count ≤ n → call_in rows n ≡ None
-none_behind [] count n h le = refl
-none_behind (r ∷ rs) count n h le =
-    let e = and_parts (nat_lt r.0 count) (below count rs) h in
-    let lt = ltb-true _ _ e.0 in
-    ap (λ b. if b then Some r.1 else call_in rs n) (ne_eqb n r.0 (λ q. omega (arith, q, lt, le))) ∙ none_behind rs count n e.1 le
+abbrev below : Table → ℕ → List Row → Bool
+below table count [] = true
+below table count (row ∷ rows) = nat_lt (number_in table row) count && below table count rows
+
+passed_over : (b : Bool) (m count n : ℕ) → nat_lt (if b then m else 0) count ≡ true → count ≤ n → (b && nat_eq m n) ≡ false
+passed_over true m count n h le = let lt = ltb-true _ _ h in ne_eqb m n (λ q. omega (arith, q, lt, le))
+passed_over false m count n h le = refl
+
+none_behind : (table : Table) (rows : List Row) (count n : ℕ) → below table count rows ≡ true → count ≤ n → find (λ (row : Row). same_table row.0 table && nat_eq row.1 n) rows ≡ None
+none_behind table [] count n h le = refl
+none_behind table (r ∷ rs) count n h le =
+    let e = and_parts (nat_lt (number_in table r) count) (below table count rs) h in
+    ap (λ b. cond b (Some r) (find (λ (row : Row). same_table row.0 table && nat_eq row.1 n) rs)) (passed_over (same_table r.0 table) r.1 count n e.0 le) ∙ none_behind table rs count n e.1 le
+
+behind : (table : Table) (count n : ℕ) → below table count ROWS ≡ true → count ≤ n → served_call table n ≡ None
+behind table count n h le = ap (option_map (λ (row : Row). row.2)) (none_behind table ROWS count n h le)
 
 a_behind : (n : ℕ) → 0xC0 ≤ n → served_call A n ≡ None
-a_behind n le = none_behind calls_of_a 0xC0 n refl le
+a_behind n le = behind A 0xC0 n refl le
 
 b_behind : (n : ℕ) → 0x5F ≤ n → served_call B n ≡ None
-b_behind n le = none_behind calls_of_b 0x5F n refl le
+b_behind n le = behind B 0x5F n refl le
 
 c_behind : (n : ℕ) → 0x20 ≤ n → served_call C n ≡ None
-c_behind n le = refl
+c_behind n le = behind C 0x20 n refl le
 
 -- the address of a number's entry
 pub address : (at n : ℕ) → at < 0x1000 → n < 0x100 → ((n * 2 ^ 2 % 2 ^ 32 + 0x80000000) % 2 ^ 32 + at) % 2 ^ 32 ≡ 0x80000000 + (at + 4 * n)

@@ -1,6 +1,6 @@
 -- From each listing on a stay is made, where it is from the listings to which it goes.
 use Rattle.std.proofs.Common.{◌≡◌, ℕ, suc, ◌+◌, ◌-◌, ◌*◌, ◌%◌, ◌^◌, ◌<◌, ◌≤◌, List, [], ◌∷◌, Bool, Some, refl, sym, ap, ◌∙◌, subst, arith}
-use Rattle.psx_base.specs.declared.ports.TheConstants.{CONSOLE_DATA, HALT_A, HALT_B, HALT_C}
+use Rattle.psx_base.specs.declared.ports.TheConstants.{HALT_A, HALT_B, HALT_C}
 use Rattle.psx_base.specs.declared.stop.Stop.{Stop}
 use Rattle.psx_base.specs.Memory.{Memory}
 use Rattle.psx_base.specs.Registers.{Registers}
@@ -17,8 +17,8 @@ use Rattle.psx_flow.specs.Meets.{Goal, Meets, calls}
 use Rattle.psx_flow.specs.Reaches.{IsPlaced, Keeps}
 use Rattle.kern_layout.specs.Stands.{user_sr}
 use Rattle.abs_kernel.specs.Stay.{Stay, Return, Halt}
-use Rattle.kern_entry.specs.declared.places.TheConstants.{LEAVE, BEHIND, RESUME, WORK, EXIT, DONE, BACK, UNSERVED, EXCEPTION, PUTCHAR, BAD_POINTER, BAD_THREAD, DEEP}
-use Rattle.kern_entry.specs.declared.calls.TheConstants.{EXIT_NODES, PUTCHAR_NODES}
+use Rattle.kern_entry.specs.declared.places.TheConstants.{LEAVE, BEHIND, RESUME, WORK, EXIT, DONE, BACK, UNSERVED, EXCEPTION, BAD_POINTER, BAD_THREAD, DEEP}
+use Rattle.kern_entry.specs.declared.calls.TheConstants.{EXIT_NODES}
 use Rattle.kern_entry.specs.declared.stops.TheConstants.{UNSERVED_NODES, EXCEPTION_NODES, DONE_NODES, BACK_NODES, BAD_POINTER_NODES, BAD_THREAD_NODES, DEEP_NODES}
 use Rattle.kern_entry.specs.declared.leave.TheConstants.{LEAVE_NODES, BEHIND_NODES, RESUME_NODES, WORK_NODES, RETURN}
 use Rattle.kern_entry.specs.EntryWords.{tree}
@@ -26,7 +26,7 @@ use Rattle.kern_entry.specs.Within.{Aim, Within}
 use Rattle.kern_entry.specs.Made.{after, Follows, given, IsBack, Leaving, Returned, Halted, Spared, Made}
 use Rattle.kern_entry.proofs.Walk.{walk_placed, within_backs, within_here}
 use Rattle.kern_entry.proofs.WorkArea.{Holds, Entered}
-use Rattle.kern_entry.proofs.Routines.{Stops, Answers, Exits, exit_meets, done_meets, back_meets, unserved_meets, exception_meets, putchar_meets, bad_pointer_meets, bad_thread_meets, deep_meets}
+use Rattle.kern_entry.proofs.Routines.{Stops, Exits, exit_meets, done_meets, back_meets, unserved_meets, exception_meets, bad_pointer_meets, bad_thread_meets, deep_meets}
 use Rattle.kern_entry.proofs.Leaving.{Resumed, leave_meets, behind_meets, work_meets, resume_meets}
 use Rattle.kern_entry.proofs.Returning.{back_to, Back, return_from}
 use Rattle.kern_stay.proofs.Telling.{after_ports, follows_ports, given_ports}
@@ -160,16 +160,6 @@ module _ (m : Memory) (all : AllPlaced m) (stay : Stay) (Z : Aim) (aimed : (k : 
     pub exception_shown : (code : ℕ) (slot : Bool) → z.cause ≡ cause_of code slot → code < 32 → HaltsBy stay 2 (PortWrite HALT_B z.epc ∷ PortWrite HALT_A code ∷ p) → Show s EXCEPTION
     exception_shown code slot e small stop =
         stops_here (tree EXCEPTION_NODES) EXCEPTION 2 (PortWrite HALT_B z.epc ∷ PortWrite HALT_A code ∷ p) s all.exception ks stop (exception_meets c z on m p 100 200 s h (omega arith) code slot e small)
-
-  pub putchar_shown : (c : Registers) (pc : ℕ) (on : Bool) (p : List Access) (s : Run) → Keep s → Holds c pc on m p 100 s → s.regs.r4 ≡ c.r4 → Returns stay (record c { r2 = c.r4 % 2 ^ 8 }) c.r31 on (PortWrite CONSOLE_DATA c.r4 ∷ p) → Show s PUTCHAR
-  putchar_shown c pc on p s ks h r4 r =
-      let q : List Access = PortWrite CONSOLE_DATA c.r4 ∷ p in
-      let P : ℕ → Type 0 = λ v. Returns stay (record c { r2 = v }) c.r31 on q in
-      walks m Z (tree PUTCHAR_NODES) PUTCHAR (λ _. ⊥) (λ to e. Answers (c.r4 % 2 ^ 8) c pc on m q 130 to e) s all.putchar ks (λ e x. absurd x) (λ a e g. low e g.holds) (λ e ke x. absurd x)
-      (λ a e ke g. subst (λ x. Show e x) (sym g.to_is) (leave_shown c pc on q e ke g.holds (subst P (sym g.answer) r))) (putchar_meets c pc on m p 100 130 s h (omega arith) r4)
-    where
-      low : (e : Run) → Holds c pc on m (PortWrite CONSOLE_DATA c.r4 ∷ p) 130 e → e.steps ≤ 200
-      low e x = omega (arith, x.within)
 
   pub bad_pointer_shown : (c : Registers) (pc : ℕ) (on : Bool) (p : List Access) (v : ℕ) (s : Run) → Keep s → Holds c pc on m p 130 s → s.regs.r8 ≡ v → HaltsBy stay 4 (PortWrite HALT_B c.r31 ∷ PortWrite HALT_A v ∷ p) → Show s BAD_POINTER
   bad_pointer_shown c pc on p v s ks h e stop =

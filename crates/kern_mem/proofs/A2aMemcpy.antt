@@ -1,10 +1,7 @@
 -- memcpy meets its stay.
-use Rattle.psx_flow.proofs.Kit.{◌≡◌, ℕ, suc, ◌+◌, ◌-◌, ◌%◌, ◌^◌, ◌<◌, ◌≤◌, ◌++◌, refl, sym, ap, ◌∙◌, subst, arith, Memory, byte, put_byte, Run, Goal, Calls, calls, Tree, Stop, Do, When, Go, Loop, place, Meets, Anew, kernel_words, start, while, Turn, Sym, ended}
+use Rattle.psx_flow.proofs.Kit.{◌≡◌, ℕ, suc, ◌+◌, ◌-◌, ◌%◌, ◌^◌, ◌<◌, ◌≤◌, ◌++◌, refl, sym, ap, ◌∙◌, subst, arith, Memory, byte, put_byte, Run, Goal, Calls, calls, place, kernel_words, start}
 use Rattle.std.proofs.Common.{zero, [], eq-eqb, ne_eqb}
 use Rattle.std.specs.Prelude.{nat_eq, nat_lt, ◌||◌, if◌then◌else◌}
-use Rattle.psx_ins.specs.declared.reg.Reg.{Reg}
-use Rattle.psx_ins.specs.declared.ins.Ins.TheVariants.{LBU, SB, ADDIU, OR}
-use Rattle.psx_flow.specs.declared.node.Test.TheVariants.{Differ}
 use Rattle.psx_base.specs.KernelState.{KernelState}
 use Rattle.psx_cpu.specs.Words.{truth}
 use Rattle.psx_flow.specs.Told.{ports}
@@ -16,26 +13,16 @@ use Rattle.abs_kernel.specs.UserBytes.{reads_byte, writes_byte, bad_pointer, fol
 use Rattle.abs_kernel.specs.Memcpy.{copy_bytes, memcpy}
 use Rattle.kern_stay.specs.Room.{room}
 use Rattle.kern_stay.specs.Shared.{tree, tested_there}
-use Rattle.kern_stay.specs.declared.places.TheConstants.{LEAVE, BAD_POINTER}
 use Rattle.kern_stay.specs.Doors.{Holds, Through, Serves, called_with, begun, most_steps}
 use Rattle.kern_stay.proofs.RoomGiven.{KnowsRoom, knows_room, true_then, false_then}
 use Rattle.kern_stay.proofs.Holding.{holds_byte}
-use Rattle.kern_stay.proofs.Ending.{no_count, a_count, through, answers, refuses, Left, left_all, left_is, left_read, left_unread, left_written, left_unwritten, user_byte}
+use Rattle.kern_stay.proofs.Ending.{no_count, a_count, through, answers, Left, left_all, left_is, left_read, left_unread, left_written, left_unwritten, user_byte}
+use Rattle.kern_stay.proofs.Looping.{Turning, FromLoop, looped, leaves, stops}
 use Rattle.kern_stay.proofs.Cursor.{null, not_null}
 use Rattle.kern_stay.proofs.TwoCursors.{Pair, pair_all, pair_first, pair_other, Cursors, both_come, both_done, first_bad, other_bad}
 use Rattle.kern_mem.specs.Own.{own}
 use Rattle.kern_mem.specs.declared.places.TheConstants.{MEMCPY, ROOM}
 use Rattle.kern_mem.specs.declared.a2a_memcpy.TheConstants.{NODES}
-
-abbrev r : ℕ → Reg
-r n = record { 0 = n }
-
--- the loop's body, and what follows it
-abbrev turn_tree : Tree
-turn_tree = Do (LBU (r 8) (r 12) 0) (Do (ADDIU (r 8) (r 8) 1) (Do (SB (r 9) (r 12) 0) (Do (ADDIU (r 9) (r 9) 1) Stop)))
-
-abbrev end_tree : Tree
-end_tree = When (Differ (r 10) (r 0)) (When (Differ (r 13) (r 0)) (Do (OR (r 0) (r 9) (r 8)) Stop) (Go BAD_POINTER Stop)) (Do (OR (r 0) (r 4) (r 2)) (Go LEAVE Stop))
 
 -- the state with its memory so far
 abbrev now : KernelState → Memory → KernelState
@@ -70,13 +57,16 @@ module _ (C : Calls) (know : KnowsRoom ROOM C) (stay : Stay) (s : KernelState) (
   abbrev G : ℕ → Goal
   G to e = Through stay most_steps to e
 
+  abbrev Inv : ℕ → Goal
+  Inv k e = Head stay s a b n m flag second k e
+
   abbrev next : (x y k : ℕ) → KernelState → Stay
   next x y k t = copy_bytes (k - 1) t (following y) (following x) (done b)
 
   abbrev write : (x y k : ℕ) → KernelState → ℕ → Stay
   write x y k t v = writes_byte t y (v % 2 ^ 8) (next x y k)
 
-  turn : (k : ℕ) (e : Run) → Head stay s a b n m flag second k e → Turn C (Differ (r 8) (r 11)) turn_tree 0 (Sym C end_tree 0 (ended (λ _. ⊥)) G) G ℕ (λ i. i) (Head stay s a b n m flag second) k e
+  turn : (k : ℕ) (e : Run) → Inv k e → Turning C (tree NODES) G Inv k e
   turn k e h =
       let x : ℕ = e.regs.r8 in
       let y : ℕ = e.regs.r9 in
@@ -90,15 +80,15 @@ module _ (C : Calls) (know : KnowsRoom ROOM C) (stay : Stay) (s : KernelState) (
                 let p = other_bad a b n m flag second k x y pair h.cursors (eq ∙ h.r11) (λ z. ne (h.r10 ∙ z)) (λ z. nz (h.r13 ∙ z)) in
                 let l = left_read stay t x (write x y k t) h.most p.0 (left_is stay _ _ h.most (copy_more k t y x b p.1.some) h.left) in
                 let l = left_unwritten stay t y (v % 2 ^ 8) (next x y k) (h.most + 128) p.1.user l in
-                through stay most_steps _ _ h.quiet (l.enough _ _ (refuses (h.most + 128 + 128) t _ (bad_pointer t y) refl h.holds (omega arith))),
+                stops stay (bad_pointer t y) (h.most + 128 + 128) t _ l h.quiet refl h.holds (omega arith),
             λ z.
                 let p = first_bad a b n m flag second k x y pair h.cursors (eq ∙ h.r11) (λ z. ne (h.r10 ∙ z)) (sym h.r13 ∙ z) in
                 let l = left_unread stay t x (write x y k t) h.most p.user (left_is stay _ _ h.most (copy_more k t y x b p.some) h.left) in
-                through stay most_steps _ _ h.quiet (l.enough _ _ (refuses (h.most + 128) t _ (bad_pointer t x) refl h.holds (omega arith))),
+                stops stay (bad_pointer t x) (h.most + 128) t _ l h.quiet refl h.holds (omega arith),
           ),
           λ z.
               let l = left_is stay _ _ h.most (copy_none k t y x b (both_done a b n m flag second k x y pair h.cursors (eq ∙ h.r11) (sym h.r10 ∙ z))) h.left in
-              through stay most_steps _ _ h.quiet (l.enough _ _ (answers h.most t _ (answered t b) (ap (answered t) (sym h.r4)) h.holds (omega arith))),
+              leaves stay (answered t b) h.most t _ l h.quiet (ap (answered t) (sym h.r4)) h.holds (omega arith),
         );
         again = λ ne.
             let g = both_come a b n m flag second k x y pair h.cursors (λ q. ne (q ∙ sym h.r11)) in
@@ -111,8 +101,8 @@ module _ (C : Calls) (know : KnowsRoom ROOM C) (stay : Stay) (s : KernelState) (
             (k - 1, g.less, record { memory = put_byte h.memory (place y) (v % 2 ^ 8); holds = stored; most = h.most + 128 + 128; left = l; within = omega arith; quiet = h.quiet; r4 = h.r4; r10 = h.r10; r11 = h.r11; r13 = h.r13; cursors = g.next });
       }
 
-  loops : (e : Run) → Head stay s a b n m flag second n e → Meets kernel_words C (Loop (Differ (r 8) (r 11)) turn_tree Stop) 0 (Anew (Sym C end_tree 0 (ended (λ _. ⊥)) G)) G e
-  loops e h = while C know.fair (Differ (r 8) (r 11)) turn_tree 0 (Sym C end_tree 0 (ended (λ _. ⊥)) G) G ℕ (λ i. i) (Head stay s a b n m flag second) turn n e h
+  loops : (e : Run) → Inv n e → FromLoop C (tree NODES) G e
+  loops e h = looped C know.fair (tree NODES) G Inv turn n e h
 
 -- how the stay goes on behind the pointers
 begins : (s : KernelState) (n : ℕ) → ((registers_of s).r4 ≡ 0 → ⊥) → ((registers_of s).r5 ≡ 0 → ⊥) → count_of (registers_of s).r6 ≡ n → memcpy s ≡ copy_bytes n s (registers_of s).r4 (registers_of s).r5 (done (registers_of s).r4)
