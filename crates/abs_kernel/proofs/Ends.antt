@@ -1,6 +1,6 @@
 -- The ends of the stays: each halts with the memory as it is, or returns at rest with the running context changed alone.
 use Rattle.std.proofs.Common.{◌≡◌, ℕ, zero, suc, ◌%◌, ◌^◌, Bool, true, false, refl, sym, ◌∙◌, Option, Some, None}
-use Rattle.std.specs.Prelude.{nat_eq, if◌then◌else◌}
+use Rattle.std.specs.Prelude.{◌+◌, ◌||◌, nat_eq, if◌then◌else◌}
 use Rattle.std.proofs.lemmas.Bool.{false≢true}
 use Rattle.psx_base.specs.declared.stop.Stop.{Stop}
 use Rattle.psx_base.specs.declared.stop.Table.{Table}
@@ -12,7 +12,7 @@ use Rattle.psx_base.specs.Items.{Entrance, ByA, ByB, ByC, BySyscall, ByInterrupt
 use Rattle.psx_base.specs.KernelState.{KernelState}
 use Rattle.kern_layout.specs.Valid.{Valid, RunningFits}
 use Rattle.abs_kernel.specs.declared.calls.CallId.{CallId}
-use Rattle.abs_kernel.specs.declared.calls.CallId.TheVariants.{A06, A2B, A2E, A2F, A30, A3A, A3C, A3E, B38, B3D, B3F}
+use Rattle.abs_kernel.specs.declared.calls.CallId.TheVariants.{A06, A1B, A2A, A2B, A2E, A2F, A30, A3A, A3C, A3E, B38, B3D, B3F}
 use Rattle.abs_kernel.specs.CallTable.{served_call}
 use Rattle.abs_kernel.specs.Cause.{entrance_of}
 use Rattle.abs_kernel.specs.Answered.{registers_of, with_answer, answered}
@@ -21,6 +21,8 @@ use Rattle.abs_kernel.specs.UserBytes.{following, count_of, longest}
 use Rattle.abs_kernel.specs.Rand.{random_next}
 use Rattle.abs_kernel.specs.Memchr.{find_byte}
 use Rattle.abs_kernel.specs.Memset.{fill}
+use Rattle.abs_kernel.specs.Memcpy.{copy_bytes}
+use Rattle.abs_kernel.specs.Strlen.{count_bytes}
 use Rattle.abs_kernel.specs.Puts.{write_text}
 use Rattle.abs_kernel.specs.Calls.{call, by_row}
 use Rattle.abs_kernel.specs.Sys.{behind_syscall, syscall}
@@ -76,12 +78,25 @@ module _ (P : KernelState → Type 0) (Q : Stop → Memory → Type 0) (s : Kern
   filled_ends zero m at v value = back m s.random value
   filled_ends (suc n) m at v value = if_ends P Q (user at) _ _ (filled_ends n (put_byte m (place at) v) (following at) v value) (halts _ _)
 
+  copied_ends : (n : ℕ) (m : Memory) (to from value : ℕ) → EachEnd P Q (copy_bytes n (record s { memory = m }) to from (λ t. answered t value))
+  copied_ends zero m to from value = back m s.random value
+  copied_ends (suc n) m to from value =
+      if_ends P Q (user from) _ _ (if_ends P Q (user to) _ _ (copied_ends n (put_byte m (place to) (byte m (place from) % 2 ^ 8)) (following to) (following from) value) (halts _ _)) (halts _ _)
+
+  counted_ends : (n at count : ℕ) → EachEnd P Q (count_bytes n s at count)
+  counted_ends zero at count = halts _ _
+  counted_ends (suc n) at count =
+      if_ends P Q (user at) _ _ (if_ends P Q (nat_eq (byte s.memory (place at)) 0) _ _ (back s.memory s.random count) (counted_ends n (following at) (count + 1))) (halts _ _)
+
   written_ends : (n at : ℕ) → EachEnd P Q (write_text n s at)
   written_ends zero at = halts _ _
   written_ends (suc n) at = if_ends P Q (user at) _ _ (if_ends P Q (nat_eq (byte s.memory (place at)) 0) _ _ (back s.memory s.random 0) (written_ends n (following at))) (halts _ _)
 
   call_ends : (id : CallId) → EachEnd P Q (call id s)
   call_ends A06 = halts _ _
+  call_ends A1B = let r = registers_of s in if_ends P Q (nat_eq r.r4 0) _ _ (back s.memory s.random 0) (counted_ends longest r.r4 0)
+  call_ends A2A =
+      let r = registers_of s in if_ends P Q (nat_eq r.r4 0 || nat_eq r.r5 0) _ _ (back s.memory s.random 0) (copied_ends (count_of r.r6) s.memory r.r4 r.r5 r.r4)
   call_ends A2B = let r = registers_of s in if_ends P Q (nat_eq r.r4 0) _ _ (back s.memory s.random 0) (filled_ends (count_of r.r6) s.memory r.r4 (r.r5 % 2 ^ 8) r.r4)
   call_ends A2E = let r = registers_of s in if_ends P Q (nat_eq r.r4 0) _ _ (back s.memory s.random 0) (found_ends (count_of r.r6) r.r4 (r.r5 % 2 ^ 8))
   call_ends A2F = back s.memory (random_next s.random) _

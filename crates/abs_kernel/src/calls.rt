@@ -9,6 +9,10 @@ use psx_base::Table;
 pub enum CallId {
     /// exit(code): the program ends with a code.
     A06,
+    /// strlen(s): the number of bytes before the zero.
+    A1B,
+    /// memcpy(d, s, n): copies n bytes, and answers d.
+    A2A,
     /// memset(d, c, n): writes a byte n times, and answers d.
     A2B,
     /// memchr(s, c, n): the address of the first of n bytes that is c, or 0.
@@ -35,8 +39,10 @@ pub enum CallId {
 pub type Row = (Table, u32, CallId, u32, &'static str);
 
 /// The calls that are served, by table and number. A call stands here and nowhere else: what a number means, a call's arguments and its name are read from this list.
-pub const ROWS: [Row; 11] = [
+pub const ROWS: [Row; 13] = [
     (Table::A, 0x06, CallId::A06, 1, "exit"),
+    (Table::A, 0x1B, CallId::A1B, 1, "strlen"),
+    (Table::A, 0x2A, CallId::A2A, 3, "memcpy"),
     (Table::A, 0x2B, CallId::A2B, 3, "memset"),
     (Table::A, 0x2E, CallId::A2E, 3, "memchr"),
     (Table::A, 0x2F, CallId::A2F, 0, "rand"),

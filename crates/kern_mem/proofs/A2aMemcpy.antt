@@ -11,6 +11,8 @@ use Rattle.abs_kernel.specs.Stay.{Stay}
 use Rattle.abs_kernel.specs.Answered.{registers_of, answered}
 use Rattle.abs_kernel.specs.UserBytes.{reads_byte, writes_byte, bad_pointer, following, count_of, with_byte}
 use Rattle.abs_kernel.specs.Memcpy.{copy_bytes, memcpy}
+use Rattle.abs_kernel.specs.declared.calls.CallId.TheVariants.{A2A}
+use Rattle.abs_kernel.specs.Calls.{call}
 use Rattle.kern_stay.specs.Room.{room}
 use Rattle.kern_stay.specs.Shared.{tree, tested_there}
 use Rattle.kern_stay.specs.Doors.{Holds, Through, Serves, called_with, begun, most_steps}
@@ -117,7 +119,7 @@ null_first p q x y e = ap (λ b. if b || nat_eq q 0 then x else y) (eq-eqb p 0 e
 null_other : (p q : ℕ) (x y : Stay) → (p ≡ 0 → ⊥) → q ≡ 0 → (if nat_eq p 0 || nat_eq q 0 then x else y) ≡ x
 null_other p q x y ne e = ap (λ b. if b || nat_eq q 0 then x else y) (ne_eqb p 0 ne) ∙ null q x y e
 
-pub serves : Serves own most_steps memcpy MEMCPY (tree NODES)
+pub serves : Serves own most_steps (call A2A) MEMCPY (tree NODES)
 serves s d z m h =
     let C : Calls = calls kernel_words (own ++ tested_there) in
     let know : KnowsRoom ROOM C = knows_room ROOM tested_there in

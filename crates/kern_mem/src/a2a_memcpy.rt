@@ -3,7 +3,8 @@ ghost use Rattle.std.specs.Prelude.{◌≡◌, IsTrue, IfSome};
 ghost use Rattle.psx_flow.specs.Reading.{tree_of};
 ghost use Rattle.psx_flow.specs.Well.{is_well};
 ghost use Rattle.psx_flow.specs.Spaced.{is_spaced};
-ghost use Rattle.abs_kernel.specs.Memcpy.{memcpy};
+ghost use Rattle.abs_kernel.specs.declared.calls.CallId.TheVariants.{A2A};
+ghost use Rattle.abs_kernel.specs.Calls.{call};
 ghost use Rattle.kern_stay.specs.Doors.{Serves, most_steps};
 ghost use Rattle.kern_mem.specs.Own.{own};
 ghost use Rattle.kern_mem.specs.declared.a2a_memcpy.TheConstants.{NODES};
@@ -68,7 +69,7 @@ pub fn memcpy() -> &'static [Node]
     ensures listing { result.now ≡ NODES }
     ensures well { IsTrue (is_well result.now) }
     ensures spaced { IsTrue (is_spaced result.now) }
-    ensures serves { IfSome (tree_of result.now) (λ tree. Serves own most_steps memcpy MEMCPY tree) }
+    ensures serves { IfSome (tree_of result.now) (λ tree. Serves own most_steps (call A2A) MEMCPY tree) }
 {
     &NODES
 }

@@ -8,6 +8,8 @@ use Rattle.abs_kernel.specs.Stay.{Stay}
 use Rattle.abs_kernel.specs.Answered.{registers_of, answered}
 use Rattle.abs_kernel.specs.UserBytes.{reads_byte, bad_pointer, following, longest}
 use Rattle.abs_kernel.specs.Strlen.{count_bytes, strlen}
+use Rattle.abs_kernel.specs.declared.calls.CallId.TheVariants.{A1B}
+use Rattle.abs_kernel.specs.Calls.{call}
 use Rattle.kern_stay.specs.Room.{room}
 use Rattle.kern_stay.specs.Shared.{tree, tested_there}
 use Rattle.kern_stay.specs.Doors.{Holds, Through, Serves, called_with, begun, most_steps}
@@ -79,7 +81,7 @@ room_short : (a : ℕ) → room a + 1 ≤ longest
 unfolding longest
 room_short a = let h = room_few a in omega (arith, h)
 
-pub serves : Serves own most_steps strlen STRLEN (tree NODES)
+pub serves : Serves own most_steps (call A1B) STRLEN (tree NODES)
 serves s d z m h =
     let C : Calls = calls kernel_words (own ++ tested_there) in
     let know : KnowsRoom ROOM C = knows_room ROOM tested_there in

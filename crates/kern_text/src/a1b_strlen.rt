@@ -3,7 +3,8 @@ ghost use Rattle.std.specs.Prelude.{◌≡◌, IsTrue, IfSome};
 ghost use Rattle.psx_flow.specs.Reading.{tree_of};
 ghost use Rattle.psx_flow.specs.Well.{is_well};
 ghost use Rattle.psx_flow.specs.Spaced.{is_spaced};
-ghost use Rattle.abs_kernel.specs.Strlen.{strlen};
+ghost use Rattle.abs_kernel.specs.declared.calls.CallId.TheVariants.{A1B};
+ghost use Rattle.abs_kernel.specs.Calls.{call};
 ghost use Rattle.kern_stay.specs.Doors.{Serves, most_steps};
 ghost use Rattle.kern_text.specs.Own.{own};
 ghost use Rattle.kern_text.specs.declared.a1b_strlen.TheConstants.{NODES};
@@ -42,7 +43,7 @@ pub fn strlen() -> &'static [Node]
     ensures listing { result.now ≡ NODES }
     ensures well { IsTrue (is_well result.now) }
     ensures spaced { IsTrue (is_spaced result.now) }
-    ensures serves { IfSome (tree_of result.now) (λ tree. Serves own most_steps strlen STRLEN tree) }
+    ensures serves { IfSome (tree_of result.now) (λ tree. Serves own most_steps (call A1B) STRLEN tree) }
 {
     &NODES
 }
