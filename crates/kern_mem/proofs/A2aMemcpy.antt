@@ -143,7 +143,7 @@ serves s d z m h =
                     let flag : ℕ = truth (nat_lt (room b) n) in
                     let less = true_then (room b) (room a) nz in (
                       λ enough. loops C know (memcpy s) s h.valid a b n n flag second (pair_all a b n flag second small_a small_b enough (let fits = false_then (room b) n enough in omega (arith, fits, less)) (false_then (room b) n enough)) _
-                      record { memory = s.memory; holds = h.holds; most = most_steps; left = l; within = omega arith; quiet = refl; r4 = refl; r10 = refl; r11 = refl; r13 = refl; cursors = record { first = refl; other = refl; most = omega arith; room = omega arith } },
+                          record { memory = s.memory; holds = h.holds; most = most_steps; left = l; within = omega arith; quiet = refl; r4 = refl; r10 = refl; r11 = refl; r13 = refl; cursors = record { first = refl; other = refl; most = omega arith; room = omega arith } },
                       λ ne.
                           let bad = pair_other a b n flag second small_a small_b ne nz (true_then (room b) n ne) less in
                           loops C know (memcpy s) s h.valid a b n (room b) flag second bad _
@@ -153,7 +153,7 @@ serves s d z m h =
                     let flag : ℕ = truth (nat_lt (room a) n) in
                     let le = false_then (room b) (room a) z in (
                       λ enough. loops C know (memcpy s) s h.valid a b n n flag second (pair_all a b n flag second small_a small_b enough (false_then (room a) n enough) (let fits = false_then (room a) n enough in omega (arith, fits, le))) _
-                      record { memory = s.memory; holds = h.holds; most = most_steps; left = l; within = omega arith; quiet = refl; r4 = refl; r10 = refl; r11 = refl; r13 = refl; cursors = record { first = refl; other = refl; most = omega arith; room = omega arith } },
+                          record { memory = s.memory; holds = h.holds; most = most_steps; left = l; within = omega arith; quiet = refl; r4 = refl; r10 = refl; r11 = refl; r13 = refl; cursors = record { first = refl; other = refl; most = omega arith; room = omega arith } },
                       λ ne.
                           let bad = pair_first a b n flag second small_a small_b ne z (true_then (room a) n ne) le in
                           loops C know (memcpy s) s h.valid a b n (room a) flag second bad _
