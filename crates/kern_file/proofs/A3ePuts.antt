@@ -17,6 +17,7 @@ use Rattle.kern_stay.proofs.RoomGiven.{KnowsRoom, knows_room}
 use Rattle.kern_stay.proofs.RoomLeft.{Span, span_some, room_few}
 use Rattle.kern_stay.proofs.Ending.{user_byte}
 use Rattle.kern_stay.proofs.Passing.{passed, answers_now, answers_last, refuses_last, enters, printed}
+use Rattle.kern_stay.proofs.Looping.{starting}
 use Rattle.kern_stay.proofs.Cursor.{Cursor, coming, done_bad, null, not_null}
 use Rattle.kern_file.specs.Own.{own}
 use Rattle.kern_file.specs.declared.places.TheConstants.{PUTS, PUTS_LOOP, ROOM}
@@ -71,14 +72,18 @@ module _ (s : KernelState) (a n stop : ℕ) (span : Span a n stop 1) where
                     printed PUTS_LOOP (again m rest) rest on 1 (v % 2 ^ 8) (byte e.bytes (place x)) 64 _ refl is refl (ap (λ y. y % 2 ^ 8) same) (
                       omega arith,
                       omega (arith, earns),
-                      repeats m (k - 1) on _ (omega (arith, lt, g.some)) (record { fuel = h.fuel - 1; some = omega (arith, h.some); is = refl; holds = h.holds; r11 = h.r11; r26 = refl; cursor = g.next }),
+                      repeats m (k - 1) on _ (omega (arith, lt, g.some))
+                          (record { fuel = h.fuel - 1; some = omega (arith, h.some); is = refl; holds = h.holds; r11 = h.r11; r26 = refl; cursor = g.next }),
                     ),
               ),
         ),
       )
 
-  starts : (rest : Stay) (e : Run) → Head s a n stop n rest e → (m : ℕ) × Repeats own most_steps PUTS_LOOP (tree LOOP_NODES) m rest e
-  starts rest e h = (suc n, repeats (suc n) n rest e (omega arith) h)
+  -- from where the loop is reached
+  starts : (rest : Stay) (e : Run) → n ≤ longest → rest ≡ write_text longest s e.regs.r8 → Holds s e.bytes → e.regs.r8 ≡ a → e.regs.r11 ≡ stop → e.regs.r26 ≡ 0x1F800000
+      → (m : ℕ) × Repeats own most_steps PUTS_LOOP (tree LOOP_NODES) m rest e
+  starts rest e some is holds r8 r11 r26 =
+      (suc n, repeats (suc n) n rest e (omega arith) (record { fuel = longest; some = some; is = is; holds = holds; r11 = r11; r26 = r26; cursor = starting a n stop 1 e.regs.r8 span r8 }))
 
 room_short : (a : ℕ) → room a + 1 ≤ longest
 unfolding longest
@@ -99,6 +104,6 @@ serves s d z m h =
       λ some.
           know.room _ _ _ _ _ _ _ small (λ x y p up. enters PUTS_LOOP first (puts s) most_steps _ refl refl (
             omega arith,
-            starts s a n ((a + room a) % 2 ^ 32) sp (puts s) _ (record { fuel = longest; some = few; is = not_null a (answered s 0) (write_text longest s a) some; holds = h.holds; r11 = refl; r26 = refl; cursor = record { low = omega arith; high = sp.low; count = refl } }),
+            starts s a n ((a + room a) % 2 ^ 32) sp (puts s) _ few (not_null a (answered s 0) (write_text longest s a) some) h.holds refl refl refl,
           )),
     )
