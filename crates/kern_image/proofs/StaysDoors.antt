@@ -110,7 +110,7 @@ module _ (rom : List ℕ) (a b c : ℕ) where
 
   module _ (first : Memory) (words : HoldsEntry first) (code : HoldsRom first rom) where
     abbrev Runs_at : Stay → ℕ → Run → Type 0
-    Runs_at stay to e = Runs rom stay 283 (at_core (kernel_core (state_at e to)))
+    Runs_at stay to e = Runs rom stay 73 (at_core (kernel_core (state_at e to)))
 
     leaves : (t : KernelState) → Valid t → (e : Run) → Keeps kernel_words first e → Answers t e → Runs_at (Return t) LEAVE e
     leaves t valid e ke h =
@@ -118,7 +118,7 @@ module _ (rom : List ℕ) (a b c : ℕ) where
         let P : KernelState → Type 0 = λ x. Reads x (word e.bytes) (byte e.bytes) × SameUser e.bytes x.memory in
         let r = h.holds.reads in
         let p : P t = subst P (sym h.is) (record { threads = r.threads; events = r.events; frames = r.frames; chains = r.chains; heap = r.heap; files = r.files; line = r.line; variables = r.variables }, h.holds.user) in
-        return_runs e.bytes t valid p.0 p.1 (rom_kept first e.bytes ke.bytes code) 282 (kernel_core (state_at e LEAVE))
+        return_runs e.bytes t valid p.0 p.1 (rom_kept first e.bytes ke.bytes code) 72 (kernel_core (state_at e LEAVE))
         (leave_returns e.regs e.cop0 e.bytes s.running t ke.masked (record { words = entry_kept first e.bytes ke.bytes words; area = h.holds.area; settled = h.holds.settled }) (ap (λ x. x.running) h.is))
 
     waiting : (t : KernelState) → Valid t → (e : Run) → Keeps kernel_words first e → Waits t e → Runs_at (Return t) WAIT e
@@ -127,7 +127,7 @@ module _ (rom : List ℕ) (a b c : ℕ) where
         let P : KernelState → Type 0 = λ x. Reads x (word e.bytes) (byte e.bytes) × SameUser e.bytes x.memory in
         let r = h.holds.reads in
         let p : P t = subst P (sym h.is) (record { threads = r.threads; events = r.events; frames = r.frames; chains = r.chains; heap = r.heap; files = r.files; line = r.line; variables = r.variables }, h.holds.user) in
-        return_runs e.bytes t valid p.0 p.1 (rom_kept first e.bytes ke.bytes code) 282 (kernel_core (state_at e WAIT))
+        return_runs e.bytes t valid p.0 p.1 (rom_kept first e.bytes ke.bytes code) 72 (kernel_core (state_at e WAIT))
         (wait_returns e.regs e.cop0 e.bytes s.running t ke.masked (record { words = entry_kept first e.bytes ke.bytes words; area = h.holds.area; settled = h.holds.settled })
         (ap (λ x. x.running) h.is ∙ ap (λ b. record { context = taken s.running.context (if b then (s.running.context.pc + (2 ^ 32 - 4)) % 2 ^ 32 else s.running.context.pc); interrupts = s.running.interrupts }) h.out))
 
@@ -135,20 +135,20 @@ module _ (rom : List ℕ) (a b c : ℕ) where
     refused stop u e ke h =
         let s : KernelState = h.state in
         let P : Stop → Type 0 = λ x. Runs_at (Halt x u) BAD_POINTER e in
-        subst P (sym h.is) (halt_runs e.bytes u (BadPointer e.regs.r8 (registers_of s).r31) (subst (SameUser e.bytes) (sym h.memory_is) h.holds.user) 282 (kernel_core (state_at e BAD_POINTER))
+        subst P (sym h.is) (halt_runs e.bytes u (BadPointer e.regs.r8 (registers_of s).r31) (subst (SameUser e.bytes) (sym h.memory_is) h.holds.user) 72 (kernel_core (state_at e BAD_POINTER))
         (bad_pointer_stops e.regs e.cop0 e.bytes u s.running ke.masked (record { words = entry_kept first e.bytes ke.bytes words; area = h.holds.area; settled = h.holds.settled })))
 
     no_thread : (stop : Stop) (u : Memory) (e : Run) → Keeps kernel_words first e → Refuses BadThread stop u e → Runs_at (Halt stop u) BAD_THREAD e
     no_thread stop u e ke h =
         let s : KernelState = h.state in
         let P : Stop → Type 0 = λ x. Runs_at (Halt x u) BAD_THREAD e in
-        subst P (sym h.is) (halt_runs e.bytes u (BadThread e.regs.r8 (registers_of s).r31) (subst (SameUser e.bytes) (sym h.memory_is) h.holds.user) 282 (kernel_core (state_at e BAD_THREAD))
+        subst P (sym h.is) (halt_runs e.bytes u (BadThread e.regs.r8 (registers_of s).r31) (subst (SameUser e.bytes) (sym h.memory_is) h.holds.user) 72 (kernel_core (state_at e BAD_THREAD))
         (bad_thread_stops e.regs e.cop0 e.bytes u s.running ke.masked (record { words = entry_kept first e.bytes ke.bytes words; area = h.holds.area; settled = h.holds.settled })))
 
     too_deep : (stop : Stop) (u : Memory) (e : Run) → Keeps kernel_words first e → Overflows stop u e → Runs_at (Halt stop u) DEEP e
     too_deep stop u e ke h =
         let P : Stop → Type 0 = λ x. Runs_at (Halt x u) DEEP e in
-        subst P (sym h.is) (halt_runs e.bytes u (Deep e.regs.r31) h.user 282 (kernel_core (state_at e DEEP)) (deep_stops e.regs e.cop0 e.bytes u ke.masked (entry_kept first e.bytes ke.bytes words)))
+        subst P (sym h.is) (halt_runs e.bytes u (Deep e.regs.r31) h.user 72 (kernel_core (state_at e DEEP)) (deep_stops e.regs e.cop0 e.bytes u ke.masked (entry_kept first e.bytes ke.bytes words)))
 
     -- at WORK what is left is a return
     working : (rest : Stay) → IsValid rest → (e : Run) → Keeps kernel_words first e → Works rest e → Runs_at rest WORK e
@@ -159,7 +159,7 @@ module _ (rom : List ℕ) (a b c : ℕ) where
         let r = h.holds.reads in
         let reads : Reads t (word e.bytes) (byte e.bytes) = record { threads = r.threads; events = r.events; frames = r.frames; chains = r.chains; heap = r.heap; files = r.files; line = r.line; variables = r.variables } in
         subst (λ x. Runs_at x WORK e) (sym h.is)
-        (return_runs e.bytes t valid reads h.holds.user (rom_kept first e.bytes ke.bytes code) 282 (kernel_core (state_at e WORK))
+        (return_runs e.bytes t valid reads h.holds.user (rom_kept first e.bytes ke.bytes code) 72 (kernel_core (state_at e WORK))
         (work_returns e.regs e.cop0 e.bytes c t ke.masked (record { words = entry_kept first e.bytes ke.bytes words; area = h.holds.area; settled = h.holds.settled }) refl))
 
     pub at_work : (rest : Stay) → IsValid rest → (most to : ℕ) (e : Run) → Keeps kernel_words first e → AtWork rest most to e → Runs_at rest to e
@@ -188,7 +188,7 @@ module _ (rom : List ℕ) (a b c : ℕ) where
     in_door (Touch bytes next) v to e ke h = absurd h
 
 -- what the ends ask
-pub ends_door : (worth : ℕ) (stay : Stay) (most to : ℕ) (e : Run) → Ends worth stay most to e → (e.passed ≤ most + worth * weight stay) × InDoor (bare stay) to e
+pub ends_door : (worth : ℕ) (stay : Stay) (most to : ℕ) (e : Run) → Ends worth stay most to e → (e.steps ≤ most + worth * weight stay) × InDoor (bare stay) to e
 ends_door worth (Touch bytes next) most to e h =
     let r = ends_door worth next (most + worth * bytes) to e h in
     let d : worth * (bytes + weight next) ≡ worth * bytes + worth * weight next = mul-add worth bytes (weight next) in

@@ -1,5 +1,5 @@
 -- Each listing stands at its address, and serves its call.
-use Rattle.std.proofs.Common.{[], refl, arith}
+use Rattle.std.proofs.Common.{[], refl, arith, inl}
 use Rattle.kern_stay.specs.Shared.{tree}
 use Rattle.kern_stay.specs.declared.room.TheConstants.{ROOM_NODES}
 use Rattle.psx_base.specs.Memory.{Memory, word}
@@ -26,10 +26,13 @@ own_placed : (m : Memory) → Stand (word m) mem_pieces → ArePlaced kernel_wor
 own_placed m r = (placed_by m ROOM (tree ROOM_NODES) refl refl refl refl (r.1.1.1.1.0), tt)
 
 pub mem_serves : MemServes
-mem_serves m r = record {
-  memcpy = record { there = λ e. absurd (omega (arith, e)); own = own; own_placed = own_placed m r; listing = tree memcpy_is.NODES; placed = placed_by m MEMCPY (tree memcpy_is.NODES) refl refl refl refl (r.1.1.1.1.1.0); serves = of_memcpy.serves };
-  memset = record { there = λ e. absurd (omega (arith, e)); own = own; own_placed = own_placed m r; listing = tree memset_is.NODES; placed = placed_by m MEMSET (tree memset_is.NODES) refl refl refl refl (r.0); serves = of_memset.serves };
-  memchr = record { there = λ e. absurd (omega (arith, e)); own = own; own_placed = own_placed m r; listing = tree memchr_is.NODES; placed = placed_by m MEMCHR (tree memchr_is.NODES) refl refl refl refl (r.1.0); serves = of_memchr.serves };
-  rand = record { there = λ e. absurd (omega (arith, e)); own = []; own_placed = tt; listing = tree rand_is.NODES; placed = placed_by m RAND (tree rand_is.NODES) refl refl refl refl (r.1.1.0); serves = of_rand.serves };
-  srand = record { there = λ e. absurd (omega (arith, e)); own = []; own_placed = tt; listing = tree srand_is.NODES; placed = placed_by m SRAND (tree srand_is.NODES) refl refl refl refl (r.1.1.1.0); serves = of_srand.serves };
-}
+mem_serves m r =
+    (
+    inl (record { there = λ e. absurd (omega (arith, e)); own = own; own_placed = own_placed m r; listing = tree memset_is.NODES; placed = placed_by m MEMSET (tree memset_is.NODES) refl refl refl refl (r.0); serves = of_memset.serves }),
+    (
+    inl (record { there = λ e. absurd (omega (arith, e)); own = own; own_placed = own_placed m r; listing = tree memchr_is.NODES; placed = placed_by m MEMCHR (tree memchr_is.NODES) refl refl refl refl (r.1.0); serves = of_memchr.serves }),
+    (
+    inl (record { there = λ e. absurd (omega (arith, e)); own = []; own_placed = tt; listing = tree rand_is.NODES; placed = placed_by m RAND (tree rand_is.NODES) refl refl refl refl (r.1.1.0); serves = of_rand.serves }),
+    (
+    inl (record { there = λ e. absurd (omega (arith, e)); own = []; own_placed = tt; listing = tree srand_is.NODES; placed = placed_by m SRAND (tree srand_is.NODES) refl refl refl refl (r.1.1.1.0); serves = of_srand.serves }),
+    tt))))
