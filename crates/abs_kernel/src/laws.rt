@@ -2,6 +2,7 @@
 ghost use Rattle.abs_kernel.specs.CauseLaws.{EntriesKept, EntriesTold};
 ghost use Rattle.abs_kernel.specs.StayLaws.{UnservedStops, RestKept, ReturnsAtRest, ValidKept};
 ghost use Rattle.abs_kernel.specs.PlayedLaws.{PlayedKeeps, AnswersInOrder, MoreAnswers, EnoughAnswers};
+ghost use Rattle.abs_kernel.specs.AccessLaws.{TestsPass, TestsStop, WordsWithin, WordsStay, TextsEnd};
 ghost use Rattle.abs_kernel.specs.ProgramLaws.{InterruptsGivenBack, EnteredAgain};
 ghost use Rattle.abs_kernel.specs.UserLaws.{UserStepKeepsValid};
 
@@ -46,4 +47,14 @@ pub fn waiting_calls()
 /// A step of user code that goes on keeps a valid state valid.
 pub fn user_steps()
     ensures { UserStepKeepsValid }
+{}
+
+/// What the words for user memory reach: a test of a range touches each byte up to and with the first bad one, a word of user memory has its four bytes there and
+/// is read as it was written, and the count in the definitions of texts is no limit.
+pub fn user_accesses()
+    ensures pass { TestsPass }
+    ensures stop { TestsStop }
+    ensures within { WordsWithin }
+    ensures again { WordsStay }
+    ensures texts { TextsEnd }
 {}
