@@ -19,6 +19,7 @@ pub mod Sys
 pub mod KernelStep
 pub mod Played
 pub mod Touched
+pub mod Changes
 pub mod CauseLaws
 pub mod StayLaws
 pub mod PlayedLaws
