@@ -4,7 +4,7 @@ use Rattle.std.specs.Prelude.{nat_eq}
 use Rattle.psx_flow.specs.Run.{Run, Access, Load, Store, PortRead, PortWrite}
 use Rattle.psx_flow.specs.Told.{ports}
 use Rattle.psx_flow.specs.Meets.{Goal}
-use Rattle.psx_base.specs.declared.ports.TheConstants.{CONSOLE_DATA}
+use Rattle.psx_base.specs.Ports.{CONSOLE_DATA}
 use Rattle.psx_base.specs.KernelState.{KernelState}
 use Rattle.abs_kernel.specs.Stay.{Stay, Write, Touch}
 use Rattle.abs_kernel.specs.Answered.{answered}

@@ -1,6 +1,6 @@
 -- How the accesses of the kernel's words follow a stay.
 use Rattle.std.specs.Prelude.{◌≡◌, ℕ, ◌%◌, ◌^◌, Bool, true, false, ◌&&◌, ◌||◌, nat_eq, nat_le, List, [], ◌∷◌, if◌then◌else◌}
-use Rattle.psx_base.specs.declared.ports.TheConstants.{CONSOLE_STATUS, CONSOLE_DATA, HALT, HALT_A, HALT_B, HALT_C}
+use Rattle.psx_base.specs.Ports.{CONSOLE_STATUS, CONSOLE_DATA, HALT, HALT_A, HALT_B, HALT_C}
 use Rattle.psx_flow.specs.Run.{Access, Load, Store, PortRead, PortWrite}
 use Rattle.abs_kernel.specs.Stay.{Stay, Halt, Ask, Tell, Write, Touch}
 
