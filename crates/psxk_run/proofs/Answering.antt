@@ -23,7 +23,7 @@ use Rattle.psxk_run.specs.Assembling.{assembling}
 
 -- why a command was refused, by the refusal
 abbrev Reason : (List ℕ → Option (List ℕ)) → (before now : List ℕ → ℕ) → Command → Refusal → Type 0
-Reason held before now c (Unread name) = Loads c name.now × Rose (before name.now) (now name.now)
+Reason held before now c (Unread name) = Loads (IsLoaded held) c name.now × Rose (before name.now) (now name.now)
 Reason held before now c Memory = Unit {0}
 Reason held before now c refusal = Refuses (IsLoaded held) c refusal
 
@@ -95,7 +95,7 @@ module _ {H : Type 0} (holds : H → List ℕ → Option (List ℕ)) (sent : H �
   is-refused (ByWork w) f = not-faulty result (work-status w) f
   is-refused (ByRefusal r) f = refused-by r.refusal (because r) r.says f
 
-  unread-by : (refusal : Refusal) → Reason (holds old) (loads old) (loads new) c refusal → Said (refusals.status_of refusal) (line_of refusal) → result ≡ 5 → IsUnread loads sent old new c
+  unread-by : (refusal : Refusal) → Reason (holds old) (loads old) (loads new) c refusal → Said (refusals.status_of refusal) (line_of refusal) → result ≡ 5 → IsUnread holds loads sent old new c
   unread-by (Unread name) cause (inl one) e = record { name = name.now; named = cause.0; rose = cause.1; report = one.1 }
   unread-by (Program fault) cause (inl one) e = absurd (omega (arith, one.0, e))
   unread-by (Schedule fault) cause (inl one) e = absurd (omega (arith, one.0, e))
@@ -104,7 +104,7 @@ module _ {H : Type 0} (holds : H → List ℕ → Option (List ℕ)) (sent : H �
   unread-by Memory cause (inl one) e = absurd (omega (arith, one.0, e))
   unread-by refusal cause (inr failed) e = absurd (omega (arith, failed.0, e))
 
-  pub is-unread : Ended → result ≡ 5 → IsUnread loads sent old new c
+  pub is-unread : Ended → result ≡ 5 → IsUnread holds loads sent old new c
   is-unread (ByWork w) e = carried-five (sent old) (sent new) (sends old) (sends new) result (work w) e
   is-unread (ByRefusal r) e = unread-by r.refusal (because r) r.says e
 

@@ -32,14 +32,15 @@ module _ (held mid : List ℕ → Option (List ℕ)) (same : (n : List ℕ) → 
   sizes-from None a g = g
   sizes-from (Some name) a g = numbers-from name a g
 
--- a load that failed, of a name that the words give
-unread : (before mid now : List ℕ → ℕ) → ((n : List ℕ) → before n ≤ mid n) → (c : RunWords) (name other : List ℕ) → Names c name → other ≡ name → Rose (mid name) (now name) → Names c other × Rose (before other) (now other)
-unread before mid now up c name other named is rose =
-    (subst (λ (n : List ℕ). Names c n) (sym is) named, subst (λ (n : List ℕ). Rose (before n) (now n)) (sym is) (rose-since (before name) (mid name) (now name) (up name) rose))
+-- a load that failed, of a name that the words give and whose turn it was
+unread : (held : List ℕ → Option (List ℕ)) (before mid now : List ℕ → ℕ) → ((n : List ℕ) → before n ≤ mid n) → (c : RunWords) (name other : List ℕ) → Names (IsLoaded held) c name → other ≡ name → Rose (mid name) (now name)
+    → Names (IsLoaded held) c other × Rose (before other) (now other)
+unread held before mid now up c name other named is rose =
+    (subst (λ (n : List ℕ). Names (IsLoaded held) c n) (sym is) named, subst (λ (n : List ℕ). Rose (before n) (now n)) (sym is) (rose-since (before name) (mid name) (now name) (up name) rose))
 
 pub program-cause : (held : List ℕ → Option (List ℕ)) (before now : List ℕ → ℕ) (c : RunWords) (refusal : Refusal) → OfProgram held before now c.name refusal → IsCause held before now c refusal
 program-cause held before now c (Program fault) o = o
-program-cause held before now c (Unread other) o = unread before before now (λ n. omega arith) c c.name other.now (inl refl) o.0 o.1
+program-cause held before now c (Unread other) o = unread held before before now (λ n. omega arith) c c.name other.now (inl refl) o.0 o.1
 program-cause held before now c Memory o = tt
 program-cause held before now c _ o = absurd o
 
@@ -49,7 +50,7 @@ module _ (held mid : List ℕ → Option (List ℕ)) (same : (n : List ℕ) → 
       → IsCause held before now (record { name = name; schedule = schedule; budget = budget; config = config }) refusal
   schedule-cause-of None config refusal exe program o = absurd o
   schedule-cause-of (Some text) config (Schedule fault) exe program o = record { exe = exe; program = program; fails = entries-from held mid same text (Err fault) o }
-  schedule-cause-of (Some text) config (Unread other) exe program o = unread before middle now up (record { name = name; schedule = Some text; budget = budget; config = config }) text other.now (inr (inl refl)) o.0 o.1
+  schedule-cause-of (Some text) config (Unread other) exe program o = unread held before middle now up (record { name = name; schedule = Some text; budget = budget; config = config }) text other.now (inr (inl (record { named = refl; exe = exe; program = program }))) o.0 o.1
   schedule-cause-of (Some text) config Memory exe program o = tt
   schedule-cause-of (Some text) config _ exe program o = absurd o
 
@@ -57,7 +58,7 @@ module _ (held mid : List ℕ → Option (List ℕ)) (same : (n : List ℕ) → 
       → OfSizes mid middle now config refusal → IsCause held before now (record { name = name; schedule = schedule; budget = budget; config = config }) refusal
   sizes-cause-of schedule None refusal exe entries program gives o = absurd o
   sizes-cause-of schedule (Some text) (Config fault) exe entries program gives o = record { exe = exe; program = program; entries = entries; schedule = gives; fails = numbers-from held mid same text (Err fault) o }
-  sizes-cause-of schedule (Some text) (Unread other) exe entries program gives o = unread before middle now up (record { name = name; schedule = schedule; budget = budget; config = Some text }) text other.now (inr (inr refl)) o.0 o.1
+  sizes-cause-of schedule (Some text) (Unread other) exe entries program gives o = unread held before middle now up (record { name = name; schedule = schedule; budget = budget; config = Some text }) text other.now (inr (inr (record { named = refl; exe = exe; program = program; entries = entries; schedule = gives }))) o.0 o.1
   sizes-cause-of schedule (Some text) Memory exe entries program gives o = tt
   sizes-cause-of schedule (Some text) _ exe entries program gives o = absurd o
 

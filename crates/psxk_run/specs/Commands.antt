@@ -11,12 +11,12 @@ use Rattle.psxk_run.specs.Refusals.{status_of}
 use Rattle.psx_asm.specs.declared.fault.AsmError.{AsmError}
 use Rattle.psx_asm.specs.Assembly.{Placed}
 
--- the words give this name to be loaded
-abbrev pub Loads : Command → List ℕ → Type 0
-Loads (ToRun c) name = Names c name
-Loads ToImage name = ⊥
-Loads (ToPrint exe) name = exe ≡ name
-Loads (ToAssemble text) name = text ≡ name
+-- the words give this name to be loaded, and the files before it were accepted
+abbrev pub Loads : IsKnown → Command → List ℕ → Type 0
+Loads Known (ToRun c) name = Names Known c name
+Loads Known ToImage name = ⊥
+Loads Known (ToPrint exe) name = exe ≡ name
+Loads Known (ToAssemble text) name = text ≡ name
 
 -- the program of `dis` has a fault
 abbrev pub RefusesProgram : IsKnown → List ℕ → Refusal → Type 0

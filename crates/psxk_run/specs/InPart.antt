@@ -67,17 +67,17 @@ pub record RefusedInPart {H : Type 0} (holds : H → List ℕ → Option (List �
   pub given : Refuses (IsLoaded (holds old)) c refusal
   pub report : ReportsFront (sent old) (sent new) (line_of refusal)
 
--- a name that the words give wasn't loaded, and of its line a front was reported
-pub record UnreadInPart {H : Type 0} (sent : H → Out → Option (List ℕ)) (old new : H) (c : Command) : Type 0 where
+-- a name that the words give wasn't loaded, though the files before it were accepted, and of its line a front was reported
+pub record UnreadInPart {H : Type 0} (holds : H → List ℕ → Option (List ℕ)) (sent : H → Out → Option (List ℕ)) (old new : H) (c : Command) : Type 0 where
   pub name : List ℕ
-  pub named : Loads c name
+  pub named : Loads (IsLoaded (holds old)) c name
   pub report : ReportsFront (sent old) (sent new) (read_line name)
 
 -- what a command has sent
 pub data SentInPart {H : Type 0} (holds : H → List ℕ → Option (List ℕ)) (sent : H → Out → Option (List ℕ)) (old new : H) (c : Command) : Type 0 where
   InWork : DoneInPart holds sent old new c → SentInPart holds sent old new c
   InFault : RefusedInPart holds sent old new c → SentInPart holds sent old new c
-  InRead : UnreadInPart sent old new c → SentInPart holds sent old new c
+  InRead : UnreadInPart holds sent old new c → SentInPart holds sent old new c
   InMemory : ReportsFront (sent old) (sent new) memory_line → SentInPart holds sent old new c
 
 -- what was sent for the words

@@ -95,13 +95,27 @@ Gives Known c (Err (Text fault)) = ⊥
 Gives Known c (Err (Unread name)) = ⊥
 Gives Known c (Err Memory) = ⊥
 
--- the words give this name to be loaded
-abbrev pub Names : RunWords → List ℕ → Type 0
-Names c name = (c.name ≡ name) ⊎ ((c.schedule ≡ Some name) ⊎ (c.config ≡ Some name))
+-- the words give this name for the schedule, and the program was accepted
+pub record NamesSchedule (Known : IsKnown) (c : RunWords) (name : List ℕ) : Type 0 where
+  pub named : c.schedule ≡ Some name
+  pub exe : Exe
+  pub program : GivesProgram Known c.name (Ok exe)
 
--- why a run was refused: a fault of a file, a load that failed by the host's count, or want of memory, which is free
+-- the words give this name for the configuration, and program and schedule were accepted
+pub record NamesConfig (Known : IsKnown) (c : RunWords) (name : List ℕ) : Type 0 where
+  pub named : c.config ≡ Some name
+  pub exe : Exe
+  pub program : GivesProgram Known c.name (Ok exe)
+  pub entries : List Entry
+  pub schedule : GivesSchedule Known c.schedule (Ok entries)
+
+-- the words give this name to be loaded, and the files before it in the order of program, schedule and configuration were accepted
+abbrev pub Names : IsKnown → RunWords → List ℕ → Type 0
+Names Known c name = (c.name ≡ name) ⊎ (NamesSchedule Known c name ⊎ NamesConfig Known c name)
+
+-- why a run was refused: the first fault of its files, a load that failed by the host's count and before which no file had a fault, or want of memory, which is free
 abbrev pub IsCause : (List ℕ → Option (List ℕ)) → (before now : List ℕ → ℕ) → RunWords → Refusal → Type 0
-IsCause held before now c (Unread name) = Names c name.now × Rose (before name.now) (now name.now)
+IsCause held before now c (Unread name) = Names (IsLoaded held) c name.now × Rose (before name.now) (now name.now)
 IsCause held before now c Memory = Unit {0}
 IsCause held before now c refusal = Gives (IsLoaded held) c (Err refusal)
 

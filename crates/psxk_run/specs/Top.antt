@@ -72,10 +72,10 @@ pub record IsRefused {H : Type 0} (holds : H → List ℕ → Option (List ℕ))
   pub success : status ≡ refusals.status_of refusal
   pub report : Grew (sent old Report) (sent new Report) (line_of refusal)
 
--- a name that the words give wasn't loaded: its count rose, and it was reported
-pub record IsUnread {H : Type 0} (load_faults : H → List ℕ → ℕ) (sent : H → Out → Option (List ℕ)) (old new : H) (c : Command) : Type 0 where
+-- a name that the words give wasn't loaded, though the files before it were accepted: its count rose, and it was reported
+pub record IsUnread {H : Type 0} (holds : H → List ℕ → Option (List ℕ)) (load_faults : H → List ℕ → ℕ) (sent : H → Out → Option (List ℕ)) (old new : H) (c : Command) : Type 0 where
   pub name : List ℕ
-  pub named : Loads c name
+  pub named : Loads (IsLoaded (holds old)) c name
   pub rose : Rose (load_faults old name) (load_faults new name)
   pub report : Grew (sent old Report) (sent new Report) (read_line name)
 

@@ -1,5 +1,5 @@
 //! The configuration text: how many threads and events a run's kernel has.
-ghost use Rattle.std.specs.Prelude.{◌≡◌, ◌==◌, ◌<◌, ◌≤◌, ◌+◌, ◌^◌, ℕ, List, [], ◌∷◌, ◌++◌, false, Result, IfOk, IfErr, IfSome, IfNone, codes, length, drop, take, slice_index};
+ghost use Rattle.std.specs.Prelude.{◌≡◌, ◌==◌, ◌<◌, ◌≤◌, ◌+◌, ◌^◌, ℕ, List, [], ◌∷◌, ◌++◌, false, Result, IfOk, IfErr, IfSome, IfNone, codes, length, slice_index};
 ghost use Rattle.std.specs.Char.{is_digit};
 ghost use Rattle.std.specs.List.{prefix_len, position_or_len};
 ghost use Rattle.std.specs.Str.Lines.{strip_carriage_return};
@@ -10,6 +10,7 @@ ghost use Rattle.psxk_run.specs.declared.configuration.ConfError.{ConfError};
 ghost use Rattle.psxk_run.specs.Config.{is_blank, behind, Assigns, HasKey, HasNumber, IsHexadecimal, IsKept, IsSettingFault, Says, IsConfigOf};
 
 use psx_base::Sizes;
+use psx_text::{front, skip};
 
 /// Why a configuration text gave no sizes. TooLong comes first, and then the first faulty line. Lines are numbered from 1 on.
 #[derive(Clone, Copy, PartialEq, Eq, Debug)]
@@ -48,28 +49,6 @@ const MOST_THREADS: u32 = 16;
 const LEAST_EVENTS: u32 = 16;
 
 const MOST_EVENTS: u32 = 64;
-
-// The bytes from a place on.
-fn skip(text: &[u8], count: usize) -> &[u8]
-    ensures { result.now ≡ drop count text.now }
-{
-    if count <= text.len() {
-        &text[count..]
-    } else {
-        &[]
-    }
-}
-
-// The first bytes of a text.
-fn front(text: &[u8], count: usize) -> &[u8]
-    ensures { result.now ≡ take count text.now }
-{
-    if count <= text.len() {
-        &text[..count]
-    } else {
-        text
-    }
-}
 
 // Whether a byte is a space or a tab.
 fn is_blank(byte: u8) -> bool

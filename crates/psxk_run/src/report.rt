@@ -13,8 +13,9 @@ use psx_asm::{AsmError, AsmFault};
 use psx_base::Stop;
 use psx_exe::ExeError;
 use psx_sched::SchedError;
+use psx_text::put;
 use psx_trace::stop_text;
-use psx_trace::text::{put, put_field};
+use psx_trace::text::put_field;
 
 /// The bytes of a line.
 pub type ReportLine = ArrayVec<u8, 128>;

@@ -223,11 +223,12 @@ pub fn psxk<H: Host>(alloc: Global, words: &[&str], host: &mut H) -> u8
     ensures done { (result ≡ 0) ⊎ (result ≡ 1) → IfCommand words.now (λ c. IsDone H.holds H.sent host.old host.new c result) }
 
     // The other statuses have their causes. What a host tells of its files decides, but for a load or a sending that failed and want of memory.
+    // A load that failed is an answer only where the files before it were accepted.
     ensures usage { result ≡ 2 → IsNone (command_of (words_of words.now)) }
     ensures usage_only { IsNone (command_of (words_of words.now)) → (result ≡ 2) ⊎ (result ≡ 6) }
     ensures refused { IsFaulty result → IfCommand words.now (λ c. IsRefused H.holds H.sent host.old host.new c result) }
     ensures only { IfSome (command_of (words_of words.now)) (λ c. Decides (H.holds host.old) c result) }
-    ensures read { result ≡ 5 → IfCommand words.now (λ c. IsUnread H.load_faults H.sent host.old host.new c) }
+    ensures read { result ≡ 5 → IfCommand words.now (λ c. IsUnread H.holds H.load_faults H.sent host.old host.new c) }
     ensures write { result ≡ 6 → Rose (H.send_faults host.old) (H.send_faults host.new) }
 
     // What isn't done sends nothing but its report.
