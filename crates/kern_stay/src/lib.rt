@@ -5,3 +5,5 @@ pub mod copy;
 pub mod places;
 pub mod placing;
 pub mod room;
+#[cfg(test)]
+mod tests;
