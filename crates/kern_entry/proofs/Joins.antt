@@ -17,7 +17,7 @@ use Rattle.kern_entry.specs.Within.{Aim}
 use Rattle.kern_entry.specs.Made.{Made}
 use Rattle.abs_kernel.specs.Answered.{with_running, with_answer}
 use Rattle.kern_entry.specs.EntryLaws.{KeepsRest, HoldsContext, LeaveReturns, WaitReturns, WorkReturns, BadPointerStops, BadThreadStops, DeepStops, OwnCalls}
-use Rattle.kern_entry.proofs.WorkArea.{Holds}
+use Rattle.kern_entry.proofs.WorkArea.{AreaHolds}
 use Rattle.kern_entry.proofs.Placed.{all_placed}
 use Rattle.kern_entry.proofs.Returning.{back_to}
 use Rattle.kern_entry.proofs.Stages.{leave_shown, work_shown, resume_shown, bad_pointer_shown, bad_thread_shown, deep_shown, exit_shown}
@@ -30,7 +30,7 @@ taken_back x at e = ap (λ o. record { regs = record (settled x.regs o) { r26 = 
 abbrev begun : Registers → Cop0 → Memory → Run
 begun regs z m = record { regs = regs; cop0 = z; bytes = m; seen = []; passed = 0; steps = 130 }
 
-holds : (regs : Registers) (z : Cop0) (m : Memory) (t : ThreadContext) → HoldsContext m t → Holds t.context.regs t.context.pc t.interrupts m [] 130 (begun regs z m)
+holds : (regs : Registers) (z : Cop0) (m : Memory) (t : ThreadContext) → HoldsContext m t → AreaHolds t.context.regs t.context.pc t.interrupts m [] 130 (begun regs z m)
 holds regs z m t h = record { area = h.area; spared = λ a o. refl; ports = refl; within = omega arith }
 
 keeps : (regs : Registers) (z : Cop0) (m : Memory) → z.sr % 2 ≡ 0 → Keeps kernel_words m (begun regs z m)
@@ -94,7 +94,7 @@ deep_stops regs z m u off h =
 abbrev starts : Registers → Cop0 → Memory → Run
 starts regs z m = record { regs = regs; cop0 = z; bytes = m; seen = []; passed = 0; steps = 0 }
 
-starts_hold : (regs : Registers) (z : Cop0) (m : Memory) (t : ThreadContext) (most : ℕ) → HoldsContext m t → Holds t.context.regs t.context.pc t.interrupts m [] most (starts regs z m)
+starts_hold : (regs : Registers) (z : Cop0) (m : Memory) (t : ThreadContext) (most : ℕ) → HoldsContext m t → AreaHolds t.context.regs t.context.pc t.interrupts m [] most (starts regs z m)
 starts_hold regs z m t most h = record { area = h.area; spared = λ a o. refl; ports = refl; within = omega arith }
 
 pub exit_called : OwnCalls EXIT exits

@@ -14,7 +14,7 @@ use Rattle.kern_entry.specs.declared.stops.TheConstants.{UNSERVED_NODES, EXCEPTI
 use Rattle.kern_entry.specs.declared.sys.TheConstants.{SYSCALLS_NODES}
 use Rattle.kern_entry.specs.EntryWords.{tree}
 use Rattle.kern_entry.specs.Made.{Spared}
-use Rattle.kern_entry.proofs.WorkArea.{held, Holds, Entered, holds_on, applied_spared, spared_then, area_put, area_sr, area_r31}
+use Rattle.kern_entry.proofs.WorkArea.{held, AreaHolds, Entered, holds_on, applied_spared, spared_then, area_put, area_sr, area_r31}
 use Rattle.kern_entry.proofs.Choosing.{code_is}
 
 -- the last access writes a code to the halt port, behind these to ports
@@ -28,13 +28,13 @@ pub record Stops (code : ℕ) (writes : List Access) (m : Memory) (most : ℕ) (
 -- the program's return comes to exit with its answer
 pub record Exits (value : ℕ) (c : Registers) (pc : ℕ) (on : Bool) (m : Memory) (p : List Access) (most to : ℕ) (e : Run) : Type 0 where
   pub to_is : to ≡ EXIT
-  pub holds : Holds c pc on m p most e
+  pub holds : AreaHolds c pc on m p most e
   pub value_is : e.regs.r4 ≡ value
 
 low_byte : (x : ℕ) → x * 2 ^ 24 % 2 ^ 32 / 2 ^ 24 ≡ x % 2 ^ 8
 low_byte x = omega arith
 
-pub exit_meets : (c : Registers) (pc : ℕ) (on : Bool) (m : Memory) (p : List Access) (most more v : ℕ) (s : Run) → Holds c pc on m p most s → s.regs.r4 ≡ v → most + 10 ≤ more
+pub exit_meets : (c : Registers) (pc : ℕ) (on : Bool) (m : Memory) (p : List Access) (most more v : ℕ) (s : Run) → AreaHolds c pc on m p most s → s.regs.r4 ≡ v → most + 10 ≤ more
     → Meets kernel_words (calls kernel_words []) (tree EXIT_NODES) EXIT (λ e. Stops 1 (PortWrite HALT_A v ∷ p) m more e) (λ _ _. ⊥) s
 exit_meets c pc on m p most more v s h e few =
     let within = h.within in
@@ -77,7 +77,7 @@ deep_meets m p v more s spared told e few =
     (record { rest = _; seen = refl; told = (λ i. PortWrite HALT_A (e i) ∷ told i); spared = spared; within = omega arith })
 
 -- from a context in the work area
-module _ (c : Registers) (pc : ℕ) (on : Bool) (m : Memory) (p : List Access) (most more : ℕ) (s : Run) (h : Holds c pc on m p most s) (few : most + 30 ≤ more) where
+module _ (c : Registers) (pc : ℕ) (on : Bool) (m : Memory) (p : List Access) (most more : ℕ) (s : Run) (h : AreaHolds c pc on m p most s) (few : most + 30 ≤ more) where
   -- an address that isn't user memory
   pub bad_pointer_meets : (v : ℕ) → s.regs.r8 ≡ v → Meets kernel_words (calls kernel_words []) (tree BAD_POINTER_NODES) BAD_POINTER (λ e. Stops 4 (PortWrite HALT_B c.r31 ∷ PortWrite HALT_A v ∷ p) m more e) (λ _ _. ⊥) s
   bad_pointer_meets v r8 =
@@ -101,9 +101,9 @@ abbrev pub was_on : Bool → ℕ
 was_on on = if on then 1 else 0
 
 abbrev pub SysGoes : (number : ℕ) (c : Registers) (epc : ℕ) (on : Bool) (m : Memory) (p : List Access) (most to : ℕ) (e : Run) → Type 0
-SysGoes zero c epc on m p most to e = (to ≡ BEHIND) × Holds c epc on m p most e
-SysGoes (suc zero) c epc on m p most to e = (to ≡ BEHIND) × Holds (record c { r2 = was_on on }) epc false m p most e
-SysGoes (suc (suc zero)) c epc on m p most to e = (to ≡ BEHIND) × Holds c epc true m p most e
+SysGoes zero c epc on m p most to e = (to ≡ BEHIND) × AreaHolds c epc on m p most e
+SysGoes (suc zero) c epc on m p most to e = (to ≡ BEHIND) × AreaHolds (record c { r2 = was_on on }) epc false m p most e
+SysGoes (suc (suc zero)) c epc on m p most to e = (to ≡ BEHIND) × AreaHolds c epc true m p most e
 SysGoes (suc (suc (suc n))) c epc on m p most to e = ⊥
 
 abbrev pub SysStops : (number : ℕ) (epc : ℕ) (m : Memory) (p : List Access) (most : ℕ) (e : Run) → Type 0

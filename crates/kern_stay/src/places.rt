@@ -17,13 +17,13 @@ pub const WAIT: u32 = LEAVE + 0x80;
 pub const WORK: u32 = CACHED + WORK_PLACE;
 
 /// Where a routine arrives with an address in r8 that isn't user memory.
-pub const BAD_POINTER: u32 = CACHED + 0x1800;
+pub const BAD_POINTER: u32 = WORK + 0x200;
 
 /// Where a routine arrives with a handle in r8 that names no thread.
-pub const BAD_THREAD: u32 = CACHED + 0x1820;
+pub const BAD_THREAD: u32 = BAD_POINTER + 0x20;
 
 /// Where a stay arrives that needs a frame more than there is room for, with the address of its caller in r31.
-pub const DEEP: u32 = CACHED + 0x1840;
+pub const DEEP: u32 = BAD_POINTER + 0x40;
 
 /// The listing that reads a byte of user memory.
 pub const READ_BYTE: u32 = CACHED + TESTED_READ_BYTE;
