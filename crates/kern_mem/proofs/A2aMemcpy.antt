@@ -34,9 +34,12 @@ now s u = record s { memory = u }
 abbrev done : ℕ → KernelState → Stay
 done d t = answered t d
 
-copy_more : (k : ℕ) (s : KernelState) (to from d : ℕ) → 0 < k → copy_bytes k s to from (done d) ≡ reads_byte s from (λ b. writes_byte s to (b % 2 ^ 8) (λ t. copy_bytes (k - 1) t (following to) (following from) (done d)))
+copy_more : (k : ℕ) (s : KernelState) (to from d : ℕ) → 0 < k
+    → copy_bytes k s to from (done d) ≡ reads_byte s from (λ b. writes_byte s to (b % 2 ^ 8) (λ t. copy_bytes (k - 1) t (following to) (following from) (done d)))
 copy_more zero s to from d h = absurd (omega arith)
-copy_more (suc k) s to from d h = let e : suc k - 1 ≡ k = omega arith in ap (λ n. reads_byte s from (λ b. writes_byte s to (b % 2 ^ 8) (λ t. copy_bytes n t (following to) (following from) (done d)))) (sym e)
+copy_more (suc k) s to from d h =
+    let e : suc k - 1 ≡ k = omega arith in
+    ap (λ n. reads_byte s from (λ b. writes_byte s to (b % 2 ^ 8) (λ t. copy_bytes n t (following to) (following from) (done d)))) (sym e)
 
 copy_none : (k : ℕ) (s : KernelState) (to from d : ℕ) → k ≡ 0 → copy_bytes k s to from (done d) ≡ answered s d
 copy_none k s to from d e = ap (λ n. copy_bytes n s to from (done d)) e
@@ -97,17 +100,48 @@ module _ (C : Calls) (know : KnowsRoom ROOM C) (stay : Stay) (s : KernelState) (
             let l = left_read stay t x (write x y k t) h.most g.user_x (left_is stay _ _ h.most (copy_more k t y x b g.some) h.left) in
             let l = left_written stay t y (v % 2 ^ 8) (next x y k) (h.most + 128) g.user_y l in
             let is : byte e.bytes (place x) ≡ v = user_byte t e.bytes h.holds x g.user_x in
+            let kept : Valid t = valid_moved s h.memory s.random s.running valid valid.running in
             let stored : Holds (with_byte t y (v % 2 ^ 8)) (put_byte e.bytes (place y) (byte e.bytes (place x) % 2 ^ 8)) =
-            subst (λ u. Holds (with_byte t y (v % 2 ^ 8)) (put_byte e.bytes (place y) (u % 2 ^ 8))) (sym is) (holds_byte t (valid_moved s h.memory s.random s.running valid valid.running) e.bytes h.holds y (v % 2 ^ 8) g.user_y) in
-            rw (g.here_x, g.sort_x, g.here_y, g.sort_y)
-            (k - 1, g.less, record { memory = put_byte h.memory (place y) (v % 2 ^ 8); holds = stored; most = h.most + 128 + 128; left = l; within = omega arith; quiet = h.quiet; r4 = h.r4; r10 = h.r10; r11 = h.r11; r13 = h.r13; cursors = g.next });
+            subst (λ u. Holds (with_byte t y (v % 2 ^ 8)) (put_byte e.bytes (place y) (u % 2 ^ 8))) (sym is) (holds_byte t kept e.bytes h.holds y (v % 2 ^ 8) g.user_y) in
+            rw (g.here_x, g.sort_x, g.here_y, g.sort_y) (
+              k - 1,
+              g.less,
+              record {
+                memory = put_byte h.memory (place y) (v % 2 ^ 8);
+                holds = stored;
+                most = h.most + 128 + 128;
+                left = l;
+                within = omega arith;
+                quiet = h.quiet;
+                r4 = h.r4;
+                r10 = h.r10;
+                r11 = h.r11;
+                r13 = h.r13;
+                cursors = g.next;
+              },
+            );
       }
 
-  loops : (e : Run) → Inv n e → FromLoop C (tree NODES) G e
-  loops e h = looped C know.fair (tree NODES) G Inv turn n e h
+  -- from where the loop is reached
+  loops : (e : Run) → Left most_steps stay (copy_bytes n s e.regs.r9 e.regs.r8 (done b)) most_steps → Holds s e.bytes → e.steps ≤ 1000 → ports e.seen ≡ []
+      → e.regs.r8 ≡ a → e.regs.r9 ≡ b → e.regs.r4 ≡ b → e.regs.r10 ≡ flag → e.regs.r11 ≡ (a + m) % 2 ^ 32 → e.regs.r13 ≡ second → FromLoop C (tree NODES) G e
+  loops e l holds few quiet r8 r9 r4 r10 r11 r13 =
+      looped C know.fair (tree NODES) G Inv turn n e record {
+        memory = s.memory;
+        holds = holds;
+        most = most_steps;
+        left = l;
+        within = omega arith;
+        quiet = quiet;
+        r4 = r4;
+        r10 = r10;
+        r11 = r11;
+        r13 = r13;
+        cursors = record { first = ap (λ x. x + n) r8; other = ap (λ x. x + n) r9; most = omega arith; room = omega arith };
+      }
 
 -- how the stay goes on behind the pointers
-begins : (s : KernelState) (n : ℕ) → ((registers_of s).r4 ≡ 0 → ⊥) → ((registers_of s).r5 ≡ 0 → ⊥) → count_of (registers_of s).r6 ≡ n → memcpy s ≡ copy_bytes n s (registers_of s).r4 (registers_of s).r5 (done (registers_of s).r4)
+begins : (s : KernelState) (n : ℕ) → let r = registers_of s in (r.r4 ≡ 0 → ⊥) → (r.r5 ≡ 0 → ⊥) → count_of r.r6 ≡ n → memcpy s ≡ copy_bytes n s r.r4 r.r5 (done r.r4)
 begins s n nd ns e =
     let r = registers_of s in
     let go : Stay = copy_bytes (count_of r.r6) s r.r4 r.r5 (done r.r4) in
@@ -137,27 +171,29 @@ serves s d z m h =
         λ ns. (
           λ few. through (memcpy s) most_steps _ _ refl (answers most_steps s _ (memcpy s) (begins s 0 nd ns (no_count n few)) h.holds (omega arith)),
           λ pos.
-              let l : Left most_steps (memcpy s) (copy_bytes n s b a (done b)) most_steps = left_is (memcpy s) (memcpy s) (copy_bytes n s b a (done b)) most_steps (begins s n nd ns (a_count n pos.1)) (left_all (memcpy s)) in
+              let l = left_is (memcpy s) _ _ most_steps (begins s n nd ns (a_count n pos.1)) (left_all (memcpy s)) in
               know.room _ _ _ _ _ _ _ small_b (λ x y p up. know.room _ _ _ _ _ _ _ small_a (λ f g q more. (
                 λ nz.
                     let flag : ℕ = truth (nat_lt (room b) n) in
                     let less = true_then (room b) (room a) nz in (
-                      λ enough. loops C know (memcpy s) s h.valid a b n n flag second (pair_all a b n flag second small_a small_b enough (let fits = false_then (room b) n enough in omega (arith, fits, less)) (false_then (room b) n enough)) _
-                      record { memory = s.memory; holds = h.holds; most = most_steps; left = l; within = omega arith; quiet = refl; r4 = refl; r10 = refl; r11 = refl; r13 = refl; cursors = record { first = refl; other = refl; most = omega arith; room = omega arith } },
+                      λ z.
+                          let fits = false_then (room b) n z in
+                          let both = pair_all a b n flag second small_a small_b z (omega (arith, fits, less)) fits in
+                          loops C know (memcpy s) s h.valid a b n n flag second both _ l h.holds (omega arith) refl refl refl refl refl refl refl,
                       λ ne.
                           let bad = pair_other a b n flag second small_a small_b ne nz (true_then (room b) n ne) less in
-                          loops C know (memcpy s) s h.valid a b n (room b) flag second bad _
-                          record { memory = s.memory; holds = h.holds; most = most_steps; left = l; within = omega arith; quiet = refl; r4 = refl; r10 = refl; r11 = refl; r13 = refl; cursors = record { first = refl; other = refl; most = omega arith; room = omega arith } },
+                          loops C know (memcpy s) s h.valid a b n (room b) flag second bad _ l h.holds (omega arith) refl refl refl refl refl refl refl,
                     ),
-                λ z.
+                λ nz.
                     let flag : ℕ = truth (nat_lt (room a) n) in
-                    let le = false_then (room b) (room a) z in (
-                      λ enough. loops C know (memcpy s) s h.valid a b n n flag second (pair_all a b n flag second small_a small_b enough (false_then (room a) n enough) (let fits = false_then (room a) n enough in omega (arith, fits, le))) _
-                      record { memory = s.memory; holds = h.holds; most = most_steps; left = l; within = omega arith; quiet = refl; r4 = refl; r10 = refl; r11 = refl; r13 = refl; cursors = record { first = refl; other = refl; most = omega arith; room = omega arith } },
+                    let le = false_then (room b) (room a) nz in (
+                      λ z.
+                          let fits = false_then (room a) n z in
+                          let both = pair_all a b n flag second small_a small_b z fits (omega (arith, fits, le)) in
+                          loops C know (memcpy s) s h.valid a b n n flag second both _ l h.holds (omega arith) refl refl refl refl refl refl refl,
                       λ ne.
-                          let bad = pair_first a b n flag second small_a small_b ne z (true_then (room a) n ne) le in
-                          loops C know (memcpy s) s h.valid a b n (room a) flag second bad _
-                          record { memory = s.memory; holds = h.holds; most = most_steps; left = l; within = omega arith; quiet = refl; r4 = refl; r10 = refl; r11 = refl; r13 = refl; cursors = record { first = refl; other = refl; most = omega arith; room = omega arith } },
+                          let bad = pair_first a b n flag second small_a small_b ne nz (true_then (room a) n ne) le in
+                          loops C know (memcpy s) s h.valid a b n (room a) flag second bad _ l h.holds (omega arith) refl refl refl refl refl refl refl,
                     ),
               ))),
         ),

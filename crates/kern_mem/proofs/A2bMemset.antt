@@ -20,7 +20,7 @@ use Rattle.kern_stay.proofs.RoomGiven.{KnowsRoom, knows_room, true_then, false_t
 use Rattle.kern_stay.proofs.RoomLeft.{Span, span_all, span_some}
 use Rattle.kern_stay.proofs.Holding.{holds_byte}
 use Rattle.kern_stay.proofs.Ending.{no_count, a_count, through, answers, Left, left_all, left_is, left_written, left_unwritten}
-use Rattle.kern_stay.proofs.Looping.{Turning, FromLoop, looped, leaves, stops}
+use Rattle.kern_stay.proofs.Looping.{starting, Turning, FromLoop, looped, leaves, stops}
 use Rattle.kern_stay.proofs.Cursor.{Cursor, coming, done_all, done_bad, null, not_null}
 use Rattle.kern_mem.specs.Own.{own}
 use Rattle.kern_mem.specs.declared.places.TheConstants.{MEMSET, ROOM}
@@ -86,18 +86,51 @@ module _ (C : Calls) (know : KnowsRoom ROOM C) (stay : Stay) (s : KernelState) (
         again = λ ne.
             let g = coming a n stop flag k x span h.cursor (λ q. ne (q ∙ sym h.r11)) in
             let l = left_written stay t x v (next x k) h.most g.user (left_is stay _ _ h.most (fill_more k t x v a g.some) h.left) in
+            let kept : Valid t = valid_moved s h.memory s.random s.running valid valid.running in
             let stored : Holds (with_byte t x v) (put_byte e.bytes (place x) (e.regs.r5 % 2 ^ 8)) =
-            subst (λ y. Holds (with_byte t x v) (put_byte e.bytes (place x) (y % 2 ^ 8))) (sym h.r5) (holds_byte t (valid_moved s h.memory s.random s.running valid valid.running) e.bytes h.holds x v g.user) in
-            rw (g.here, g.sort)
-            (k - 1, g.less, record { memory = put_byte h.memory (place x) v; holds = stored; most = h.most + 128; left = l; within = omega arith; quiet = h.quiet; r4 = h.r4; r5 = h.r5; r10 = h.r10; r11 = h.r11; cursor = g.next });
+            subst (λ y. Holds (with_byte t x v) (put_byte e.bytes (place x) (y % 2 ^ 8))) (sym h.r5) (holds_byte t kept e.bytes h.holds x v g.user) in
+            rw (g.here, g.sort) (
+              k - 1,
+              g.less,
+              record {
+                memory = put_byte h.memory (place x) v;
+                holds = stored;
+                most = h.most + 128;
+                left = l;
+                within = omega arith;
+                quiet = h.quiet;
+                r4 = h.r4;
+                r5 = h.r5;
+                r10 = h.r10;
+                r11 = h.r11;
+                cursor = g.next;
+              },
+            );
       }
 
-  loops : (e : Run) → Inv n e → FromLoop C (tree NODES) G e
-  loops e h = looped C know.fair (tree NODES) G Inv turn n e h
+  -- from where the loop is reached
+  loops : (e : Run) → Left most_steps stay (fill n s e.regs.r8 (b % 2 ^ 8) (done a)) most_steps → Holds s e.bytes → e.steps ≤ 1000 → ports e.seen ≡ []
+      → e.regs.r8 ≡ a → e.regs.r4 ≡ a → e.regs.r5 ≡ b → e.regs.r10 ≡ flag → e.regs.r11 ≡ stop → FromLoop C (tree NODES) G e
+  loops e l holds few quiet r8 r4 r5 r10 r11 =
+      looped C know.fair (tree NODES) G Inv turn n e record {
+        memory = s.memory;
+        holds = holds;
+        most = most_steps;
+        left = l;
+        within = omega arith;
+        quiet = quiet;
+        r4 = r4;
+        r5 = r5;
+        r10 = r10;
+        r11 = r11;
+        cursor = starting a n stop flag e.regs.r8 span r8;
+      }
 
 -- how the stay goes on behind the pointer
-begins : (s : KernelState) (n : ℕ) → ((registers_of s).r4 ≡ 0 → ⊥) → count_of (registers_of s).r6 ≡ n → memset s ≡ fill n s (registers_of s).r4 ((registers_of s).r5 % 2 ^ 8) (done (registers_of s).r4)
-begins s n ne e = let r = registers_of s in not_null r.r4 (answered s 0) (fill (count_of r.r6) s r.r4 (r.r5 % 2 ^ 8) (done r.r4)) ne ∙ ap (λ n. fill n s r.r4 (r.r5 % 2 ^ 8) (done r.r4)) e
+begins : (s : KernelState) (n : ℕ) → let r = registers_of s in (r.r4 ≡ 0 → ⊥) → count_of r.r6 ≡ n → memset s ≡ fill n s r.r4 (r.r5 % 2 ^ 8) (done r.r4)
+begins s n ne e =
+    let r = registers_of s in
+    not_null r.r4 (answered s 0) (fill (count_of r.r6) s r.r4 (r.r5 % 2 ^ 8) (done r.r4)) ne ∙ ap (λ n. fill n s r.r4 (r.r5 % 2 ^ 8) (done r.r4)) e
 
 pub serves : Serves own most_steps (call A2B) MEMSET (tree NODES)
 serves s d z m h =
@@ -113,16 +146,14 @@ serves s d z m h =
       λ some. (
         λ few. through (memset s) most_steps _ _ refl (answers most_steps s _ (memset s) (begins s 0 some (no_count n few)) h.holds (omega arith)),
         λ pos.
-            let l : Left most_steps (memset s) (fill n s a (b % 2 ^ 8) (done a)) most_steps = left_is (memset s) (memset s) (fill n s a (b % 2 ^ 8) (done a)) most_steps (begins s n some (a_count n pos.1)) (left_all (memset s)) in
+            let l = left_is (memset s) _ _ most_steps (begins s n some (a_count n pos.1)) (left_all (memset s)) in
             know.room _ _ _ _ _ _ _ small (λ x y p up. (
               λ q.
-                  let sp = span_all a n flag small q (false_then (room a) n q) in
-                  loops C know (memset s) s h.valid a n b ((a + n) % 2 ^ 32) flag sp _
-                  record { memory = s.memory; holds = h.holds; most = most_steps; left = l; within = omega arith; quiet = refl; r4 = refl; r5 = refl; r10 = refl; r11 = refl; cursor = record { low = omega arith; high = sp.low; count = refl } },
+                  let all = span_all a n flag small q (false_then (room a) n q) in
+                  loops C know (memset s) s h.valid a n b ((a + n) % 2 ^ 32) flag all _ l h.holds (omega arith) refl refl refl refl refl refl,
               λ ne.
-                  let sp = span_some a n flag small ne (true_then (room a) n ne) in
-                  loops C know (memset s) s h.valid a n b ((a + room a) % 2 ^ 32) flag sp _
-                  record { memory = s.memory; holds = h.holds; most = most_steps; left = l; within = omega arith; quiet = refl; r4 = refl; r5 = refl; r10 = refl; r11 = refl; cursor = record { low = omega arith; high = sp.low; count = refl } },
+                  let bad = span_some a n flag small ne (true_then (room a) n ne) in
+                  loops C know (memset s) s h.valid a n b ((a + room a) % 2 ^ 32) flag bad _ l h.holds (omega arith) refl refl refl refl refl refl,
             )),
       ),
     )

@@ -17,7 +17,7 @@ use Rattle.kern_stay.specs.Doors.{Holds, Through, Serves, called_with, begun, mo
 use Rattle.kern_stay.proofs.RoomGiven.{KnowsRoom, knows_room, true_then, false_then}
 use Rattle.kern_stay.proofs.RoomLeft.{Span, span_all, span_some}
 use Rattle.kern_stay.proofs.Ending.{no_count, a_count, low_byte, through, answers, Left, left_all, left_is, left_read, left_unread, user_byte}
-use Rattle.kern_stay.proofs.Looping.{Turning, FromLoop, looped, leaves, stops}
+use Rattle.kern_stay.proofs.Looping.{starting, Turning, FromLoop, looped, leaves, stops}
 use Rattle.kern_stay.proofs.Cursor.{Cursor, coming, done_all, done_bad, null, not_null}
 use Rattle.kern_mem.specs.Own.{own}
 use Rattle.kern_mem.specs.declared.places.TheConstants.{MEMCHR, ROOM}
@@ -79,15 +79,23 @@ module _ (C : Calls) (know : KnowsRoom ROOM C) (stay : Stay) (s : KernelState) (
                   leaves stay (answered s x) (h.most + 128) s _ lf h.quiet (ap (answered s) (sym g.back)) there (omega arith),
               λ nf.
                   let ln = left_is stay _ _ (h.most + 128) (ap (λ b. if b then answered s x else find_byte (k - 1) s (following x) c) (ne_eqb v c (λ q. nf (is ∙ q ∙ sym h.r5)))) l in
-                  (k - 1, g.less, record { most = h.most + 128; left = ln; within = omega arith; bytes = h.bytes; quiet = h.quiet; r5 = h.r5; r10 = h.r10; r11 = h.r11; cursor = g.next }),
+                  (
+                    k - 1,
+                    g.less,
+                    record { most = h.most + 128; left = ln; within = omega arith; bytes = h.bytes; quiet = h.quiet; r5 = h.r5; r10 = h.r10; r11 = h.r11; cursor = g.next },
+                  ),
             );
       }
 
-  loops : (e : Run) → Inv n e → FromLoop C (tree NODES) G e
-  loops e h = looped C know.fair (tree NODES) G Inv turn n e h
+  -- from where the loop is reached
+  loops : (e : Run) → Left most_steps stay (find_byte n s e.regs.r8 c) most_steps → e.bytes ≡ m → e.steps ≤ 1000 → ports e.seen ≡ []
+      → e.regs.r8 ≡ a → e.regs.r5 ≡ c → e.regs.r10 ≡ flag → e.regs.r11 ≡ stop → FromLoop C (tree NODES) G e
+  loops e l bytes few quiet r8 r5 r10 r11 =
+      looped C know.fair (tree NODES) G Inv turn n e
+      record { most = most_steps; left = l; within = omega arith; bytes = bytes; quiet = quiet; r5 = r5; r10 = r10; r11 = r11; cursor = starting a n stop flag e.regs.r8 span r8 }
 
 -- how the stay goes on behind the pointer
-begins : (s : KernelState) (n : ℕ) → ((registers_of s).r4 ≡ 0 → ⊥) → count_of (registers_of s).r6 ≡ n → memchr s ≡ find_byte n s (registers_of s).r4 ((registers_of s).r5 * 2 ^ 24 % 2 ^ 32 / 2 ^ 24)
+begins : (s : KernelState) (n : ℕ) → let r = registers_of s in (r.r4 ≡ 0 → ⊥) → count_of r.r6 ≡ n → memchr s ≡ find_byte n s r.r4 (r.r5 * 2 ^ 24 % 2 ^ 32 / 2 ^ 24)
 begins s n ne e =
     let r = registers_of s in
     not_null r.r4 (answered s 0) (find_byte (count_of r.r6) s r.r4 (r.r5 % 2 ^ 8)) ne ∙ (λ i. find_byte (e i) s r.r4 (sym (low_byte r.r5) i))
@@ -107,16 +115,14 @@ serves s d z m h =
       λ some. (
         λ few. through (memchr s) most_steps _ _ refl (answers most_steps s _ (memchr s) (begins s 0 some (no_count n few)) h.holds (omega arith)),
         λ pos.
-            let l : Left most_steps (memchr s) (find_byte n s a c) most_steps = left_is (memchr s) (memchr s) (find_byte n s a c) most_steps (begins s n some (a_count n pos.1)) (left_all (memchr s)) in
+            let l = left_is (memchr s) _ _ most_steps (begins s n some (a_count n pos.1)) (left_all (memchr s)) in
             know.room _ _ _ _ _ _ _ small (λ x y p up. (
               λ q.
-                  let sp = span_all a n flag small q (false_then (room a) n q) in
-                  loops C know (memchr s) s m h.holds a n c ((a + n) % 2 ^ 32) flag sp _
-                  record { most = most_steps; left = l; within = omega arith; bytes = refl; quiet = refl; r5 = refl; r10 = refl; r11 = refl; cursor = record { low = omega arith; high = sp.low; count = refl } },
+                  let all = span_all a n flag small q (false_then (room a) n q) in
+                  loops C know (memchr s) s m h.holds a n c ((a + n) % 2 ^ 32) flag all _ l refl (omega arith) refl refl refl refl refl,
               λ ne.
-                  let sp = span_some a n flag small ne (true_then (room a) n ne) in
-                  loops C know (memchr s) s m h.holds a n c ((a + room a) % 2 ^ 32) flag sp _
-                  record { most = most_steps; left = l; within = omega arith; bytes = refl; quiet = refl; r5 = refl; r10 = refl; r11 = refl; cursor = record { low = omega arith; high = sp.low; count = refl } },
+                  let bad = span_some a n flag small ne (true_then (room a) n ne) in
+                  loops C know (memchr s) s m h.holds a n c ((a + room a) % 2 ^ 32) flag bad _ l refl (omega arith) refl refl refl refl refl,
             )),
       ),
     )

@@ -32,19 +32,54 @@ own_placed : (m : Memory) → Stand (word m) mem_pieces → ArePlaced kernel_wor
 own_placed m r = (placed_by m ROOM (tree ROOM_NODES) refl refl refl refl (r.1.1.1.1.0), tt)
 
 memcpy_served : (m : Memory) → Stand (word m) mem_pieces → IsServed m most_steps memcpy MEMCPY
-memcpy_served m r = record { there = λ e. absurd (omega (arith, e)); own = own; own_placed = own_placed m r; listing = tree memcpy_is.NODES; placed = placed_by m MEMCPY (tree memcpy_is.NODES) refl refl refl refl (r.1.1.1.1.1.0); serves = of_memcpy.serves }
+memcpy_served m r = record {
+  there = λ e. absurd (omega (arith, e));
+  own = own;
+  own_placed = own_placed m r;
+  listing = tree memcpy_is.NODES;
+  placed = placed_by m MEMCPY (tree memcpy_is.NODES) refl refl refl refl (r.1.1.1.1.1.0);
+  serves = of_memcpy.serves;
+}
 
 memset_served : (m : Memory) → Stand (word m) mem_pieces → IsServed m most_steps memset MEMSET
-memset_served m r = record { there = λ e. absurd (omega (arith, e)); own = own; own_placed = own_placed m r; listing = tree memset_is.NODES; placed = placed_by m MEMSET (tree memset_is.NODES) refl refl refl refl (r.0); serves = of_memset.serves }
+memset_served m r = record {
+  there = λ e. absurd (omega (arith, e));
+  own = own;
+  own_placed = own_placed m r;
+  listing = tree memset_is.NODES;
+  placed = placed_by m MEMSET (tree memset_is.NODES) refl refl refl refl (r.0);
+  serves = of_memset.serves;
+}
 
 memchr_served : (m : Memory) → Stand (word m) mem_pieces → IsServed m most_steps memchr MEMCHR
-memchr_served m r = record { there = λ e. absurd (omega (arith, e)); own = own; own_placed = own_placed m r; listing = tree memchr_is.NODES; placed = placed_by m MEMCHR (tree memchr_is.NODES) refl refl refl refl (r.1.0); serves = of_memchr.serves }
+memchr_served m r = record {
+  there = λ e. absurd (omega (arith, e));
+  own = own;
+  own_placed = own_placed m r;
+  listing = tree memchr_is.NODES;
+  placed = placed_by m MEMCHR (tree memchr_is.NODES) refl refl refl refl (r.1.0);
+  serves = of_memchr.serves;
+}
 
 rand_served : (m : Memory) → Stand (word m) mem_pieces → IsServed m most_steps rand RAND
-rand_served m r = record { there = λ e. absurd (omega (arith, e)); own = []; own_placed = tt; listing = tree rand_is.NODES; placed = placed_by m RAND (tree rand_is.NODES) refl refl refl refl (r.1.1.0); serves = of_rand.serves }
+rand_served m r = record {
+  there = λ e. absurd (omega (arith, e));
+  own = [];
+  own_placed = tt;
+  listing = tree rand_is.NODES;
+  placed = placed_by m RAND (tree rand_is.NODES) refl refl refl refl (r.1.1.0);
+  serves = of_rand.serves;
+}
 
 srand_served : (m : Memory) → Stand (word m) mem_pieces → IsServed m most_steps srand SRAND
-srand_served m r = record { there = λ e. absurd (omega (arith, e)); own = []; own_placed = tt; listing = tree srand_is.NODES; placed = placed_by m SRAND (tree srand_is.NODES) refl refl refl refl (r.1.1.1.0); serves = of_srand.serves }
+srand_served m r = record {
+  there = λ e. absurd (omega (arith, e));
+  own = [];
+  own_placed = tt;
+  listing = tree srand_is.NODES;
+  placed = placed_by m SRAND (tree srand_is.NODES) refl refl refl refl (r.1.1.1.0);
+  serves = of_srand.serves;
+}
 
 pub mem_serves : MemServes
 mem_serves m r = (inl (memcpy_served m r), (inl (memset_served m r), (inl (memchr_served m r), (inl (rand_served m r), (inl (srand_served m r), tt)))))

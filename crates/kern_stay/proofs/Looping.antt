@@ -1,5 +1,5 @@
 -- The loop of a routine, as it stands in its listing, and the ends of a routine that has one.
-use Rattle.psx_flow.proofs.Kit.{◌≡◌, ℕ, ◌≤◌, [], Run, Goal, Calls, Fair, Tree, Stop, Do, When, Loop, Visit, Meets, Anew, kernel_words, while, Turn, Sym, ended}
+use Rattle.psx_flow.proofs.Kit.{◌≡◌, ℕ, ◌≤◌, arith, [], Run, Goal, Calls, Fair, Tree, Stop, Do, When, Loop, Visit, Meets, Anew, kernel_words, while, Turn, Sym, ended}
 use Rattle.psx_ins.specs.declared.reg.Reg.{Reg}
 use Rattle.psx_flow.specs.declared.node.Test.{Test}
 use Rattle.psx_flow.specs.declared.node.Test.TheVariants.{Same}
@@ -10,6 +10,8 @@ use Rattle.abs_kernel.specs.Answered.{answered}
 use Rattle.abs_kernel.specs.UserBytes.{bad_pointer}
 use Rattle.kern_stay.specs.declared.places.TheConstants.{LEAVE, BAD_POINTER}
 use Rattle.kern_stay.specs.Doors.{Holds, Through}
+use Rattle.kern_stay.proofs.RoomLeft.{Span}
+use Rattle.kern_stay.proofs.Cursor.{Cursor}
 use Rattle.kern_stay.proofs.Ending.{Left, through, answers, refuses}
 
 -- register n
@@ -46,13 +48,20 @@ Turning C T G Inv k e = Turn C (loop_test T) (loop_body T) 0 (Sym C (behind_loop
 abbrev pub FromLoop : Calls → Tree → (ℕ → Goal) → Goal
 FromLoop C T G e = Meets kernel_words C (Loop (loop_test T) (loop_body T) Stop) 0 (Anew (Sym C (behind_loop T) 0 (ended (λ _. ⊥)) G)) G e
 
-pub looped : (C : Calls) → Fair C → (T : Tree) (G : ℕ → Goal) (Inv : ℕ → Goal) → ((k : ℕ) (e : Run) → Inv k e → Turning C T G Inv k e) → (k : ℕ) (e : Run) → Inv k e → FromLoop C T G e
+pub looped : (C : Calls) → Fair C → (T : Tree) (G : ℕ → Goal) (Inv : ℕ → Goal)
+    → ((k : ℕ) (e : Run) → Inv k e → Turning C T G Inv k e) → (k : ℕ) (e : Run) → Inv k e → FromLoop C T G e
 looped C fair T G Inv turn k e h = while C fair (loop_test T) (loop_body T) 0 (Sym C (behind_loop T) 0 (ended (λ _. ⊥)) G) G ℕ (λ i. i) Inv turn k e h
+
+-- a pointer at its beginning
+pub starting : (a n stop flag x : ℕ) → Span a n stop flag → x ≡ a → Cursor a n stop n x
+starting a n stop flag x span e = record { low = omega (arith, e); high = omega (arith, e, span.low); count = omega (arith, e) }
 
 -- ---- the ends, with what is left of the stay
 
-pub leaves : {flat : ℕ} (stay rest : Stay) (most : ℕ) (state : KernelState) (e : Run) → Left flat stay rest most → ports e.seen ≡ [] → rest ≡ answered state e.regs.r2 → Holds state e.bytes → e.steps ≤ most → Through stay flat LEAVE e
+pub leaves : {flat : ℕ} (stay rest : Stay) (most : ℕ) (state : KernelState) (e : Run) → Left flat stay rest most → ports e.seen ≡ []
+    → rest ≡ answered state e.regs.r2 → Holds state e.bytes → e.steps ≤ most → Through stay flat LEAVE e
 leaves {flat} stay rest most state e l quiet is h few = through stay flat LEAVE e quiet (l.enough LEAVE e (answers most state e rest is h few))
 
-pub stops : {flat : ℕ} (stay rest : Stay) (most : ℕ) (state : KernelState) (e : Run) → Left flat stay rest most → ports e.seen ≡ [] → rest ≡ bad_pointer state e.regs.r8 → Holds state e.bytes → e.steps ≤ most → Through stay flat BAD_POINTER e
+pub stops : {flat : ℕ} (stay rest : Stay) (most : ℕ) (state : KernelState) (e : Run) → Left flat stay rest most → ports e.seen ≡ []
+    → rest ≡ bad_pointer state e.regs.r8 → Holds state e.bytes → e.steps ≤ most → Through stay flat BAD_POINTER e
 stops {flat} stay rest most state e l quiet is h few = through stay flat BAD_POINTER e quiet (l.enough BAD_POINTER e (refuses most state e rest is h few))

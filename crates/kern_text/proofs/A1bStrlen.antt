@@ -16,15 +16,18 @@ use Rattle.kern_stay.specs.Doors.{Holds, Through, Serves, called_with, begun, mo
 use Rattle.kern_stay.proofs.RoomGiven.{KnowsRoom, knows_room}
 use Rattle.kern_stay.proofs.RoomLeft.{Span, span_some, room_few}
 use Rattle.kern_stay.proofs.Ending.{through, answers, Left, left_all, left_is, left_read, left_unread, user_byte}
-use Rattle.kern_stay.proofs.Looping.{Turning, FromLoop, looped, leaves, stops}
+use Rattle.kern_stay.proofs.Looping.{starting, Turning, FromLoop, looped, leaves, stops}
 use Rattle.kern_stay.proofs.Cursor.{Cursor, coming, done_bad, null, not_null}
 use Rattle.kern_text.specs.Own.{own}
 use Rattle.kern_text.specs.declared.places.TheConstants.{STRLEN, ROOM}
 use Rattle.kern_text.specs.declared.a1b_strlen.TheConstants.{NODES}
 
-count_more : (n : ℕ) (s : KernelState) (at count : ℕ) → 0 < n → count_bytes n s at count ≡ reads_byte s at (λ b. if nat_eq b 0 then answered s count else count_bytes (n - 1) s (following at) (count + 1))
+count_more : (n : ℕ) (s : KernelState) (at count : ℕ) → 0 < n
+    → count_bytes n s at count ≡ reads_byte s at (λ b. if nat_eq b 0 then answered s count else count_bytes (n - 1) s (following at) (count + 1))
 count_more zero s at count h = absurd (omega arith)
-count_more (suc n) s at count h = let e : suc n - 1 ≡ n = omega arith in ap (λ j. reads_byte s at (λ b. if nat_eq b 0 then answered s count else count_bytes j s (following at) (count + 1))) (sym e)
+count_more (suc n) s at count h =
+    let e : suc n - 1 ≡ n = omega arith in
+    ap (λ j. reads_byte s at (λ b. if nat_eq b 0 then answered s count else count_bytes j s (following at) (count + 1))) (sym e)
 
 -- at the loop's head, with k bytes to come up to the first that isn't user memory, and that one
 record Head (stay : Stay) (s : KernelState) (m : Memory) (a n stop k : ℕ) (e : Run) : Type 0 where
@@ -70,12 +73,45 @@ module _ (C : Calls) (know : KnowsRoom ROOM C) (stay : Stay) (s : KernelState) (
                   leaves stay (answered s h.count) (h.most + 128) s _ lf h.quiet (ap (answered s) (omega (arith, g.back, h.counted, h.r4, span.within, h.cursor.high))) there (omega arith),
               λ nz.
                   let ln = left_is stay _ _ (h.most + 128) (ap (λ b. if b then answered s h.count else count_bytes (h.fuel - 1) s (following x) (h.count + 1)) (ne_eqb v 0 (λ q. nz (is ∙ q)))) l in
-                  (k - 1, g.less, record { fuel = h.fuel - 1; some = omega (arith, h.some); count = h.count + 1; counted = omega (arith, g.next.count, h.cursor.count, g.some, h.counted); most = h.most + 128; left = ln; within = omega arith; bytes = h.bytes; quiet = h.quiet; r4 = h.r4; r11 = h.r11; cursor = g.next }),
+                  (
+                    k - 1,
+                    g.less,
+                    record {
+                      fuel = h.fuel - 1;
+                      some = omega (arith, h.some);
+                      count = h.count + 1;
+                      counted = omega (arith, g.next.count, h.cursor.count, g.some, h.counted);
+                      most = h.most + 128;
+                      left = ln;
+                      within = omega arith;
+                      bytes = h.bytes;
+                      quiet = h.quiet;
+                      r4 = h.r4;
+                      r11 = h.r11;
+                      cursor = g.next;
+                    },
+                  ),
             );
       }
 
-  loops : (e : Run) → Inv n e → FromLoop C (tree NODES) G e
-  loops e h = looped C know.fair (tree NODES) G Inv turn n e h
+  -- from where the loop is reached
+  loops : (e : Run) → n ≤ longest → Left most_steps stay (count_bytes longest s e.regs.r8 0) most_steps → e.bytes ≡ m → e.steps ≤ 1000 → ports e.seen ≡ []
+      → e.regs.r8 ≡ a → e.regs.r4 ≡ a → e.regs.r11 ≡ stop → FromLoop C (tree NODES) G e
+  loops e short l bytes few quiet r8 r4 r11 =
+      looped C know.fair (tree NODES) G Inv turn n e record {
+        fuel = longest;
+        some = short;
+        count = 0;
+        counted = omega (arith, r8);
+        most = most_steps;
+        left = l;
+        within = omega arith;
+        bytes = bytes;
+        quiet = quiet;
+        r4 = r4;
+        r11 = r11;
+        cursor = starting a n stop 1 e.regs.r8 span r8;
+      }
 
 room_short : (a : ℕ) → room a + 1 ≤ longest
 unfolding longest
@@ -93,8 +129,6 @@ serves s d z m h =
     start C know.fair (tree NODES) STRLEN (λ _. ⊥) (λ to e. Through (strlen s) most_steps to e) (begun (called_with (registers_of s) d) z m) (
       λ none. through (strlen s) most_steps _ _ refl (answers most_steps s _ (strlen s) (null a (answered s 0) (count_bytes longest s a 0) none) h.holds (omega arith)),
       λ some.
-          let l : Left most_steps (strlen s) (count_bytes longest s a 0) most_steps = left_is (strlen s) (strlen s) (count_bytes longest s a 0) most_steps (not_null a (answered s 0) (count_bytes longest s a 0) some) (left_all (strlen s)) in
-          know.room _ _ _ _ _ _ _ small (λ x y p up.
-          loops C know (strlen s) s m h.holds a n ((a + room a) % 2 ^ 32) sp _
-          record { fuel = longest; some = few; count = 0; counted = omega arith; most = most_steps; left = l; within = omega arith; bytes = refl; quiet = refl; r4 = refl; r11 = refl; cursor = record { low = omega arith; high = sp.low; count = refl } }),
+          let l = left_is (strlen s) _ _ most_steps (not_null a (answered s 0) (count_bytes longest s a 0) some) (left_all (strlen s)) in
+          know.room _ _ _ _ _ _ _ small (λ x y p up. loops C know (strlen s) s m h.holds a n ((a + room a) % 2 ^ 32) sp _ few l refl (omega arith) refl refl refl refl),
     )
