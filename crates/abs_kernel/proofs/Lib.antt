@@ -7,3 +7,4 @@ pub mod Lists
 pub mod Critical
 pub mod Waiting
 pub mod UserSteps
+pub mod Accesses

@@ -6,10 +6,11 @@ use Rattle.psx_base.specs.KernelState.{KernelState}
 use Rattle.kern_layout.specs.Valid.{Valid}
 use Rattle.abs_kernel.specs.Stay.{Stay, Return, Halt, Ask, Tell, Write, Touch}
 use Rattle.abs_kernel.specs.KernelStep.{stay_of}
+use Rattle.abs_kernel.specs.Changes.{changed, Changed}
 use Rattle.abs_kernel.specs.Played.{Asked, Told, Written, End, Returned, Halted, Short, after, played}
 use Rattle.abs_kernel.specs.StayLaws.{EachEnd}
-use Rattle.abs_kernel.specs.PlayedLaws.{PlayedKeeps, AnswersInOrder, MoreAnswers, EnoughAnswers}
-use Rattle.abs_kernel.proofs.Ends.{valid_kept}
+use Rattle.abs_kernel.specs.PlayedLaws.{PlayedKeeps, HaltedKeeps, AnswersInOrder, MoreAnswers, EnoughAnswers}
+use Rattle.abs_kernel.proofs.Ends.{Any, rest_kept, memory_kept, valid_kept}
 
 -- what holds of each end of a stay, of the end with a list of answers
 abbrev pub OfEnd : (KernelState → Type 0) → (Stop → Memory → Type 0) → End → Type 0
@@ -30,7 +31,10 @@ of_end_is : (P : KernelState → Type 0) (Q : Stop → Memory → Type 0) (stay 
 of_end_is P Q stay answers end h e = subst (OfEnd P Q) e (of_end P Q stay answers h)
 
 pub played_keeps : PlayedKeeps
-played_keeps s t code answers e v = of_end_is Valid (λ stop memory. Unit {0}) (stay_of s code) answers (Returned t) (valid_kept s code v) e
+played_keeps s t code answers e = (λ v. of_end_is Valid Any (stay_of s code) answers (Returned t) (valid_kept s code v) e, of_end_is (Changed (changed s code) s) Any (stay_of s code) answers (Returned t) (rest_kept s code) e)
+
+pub halted_keeps : HaltedKeeps
+halted_keeps s code answers stop memory h e = of_end_is (λ t. t.memory ≡ s.memory) (λ last m. m ≡ s.memory) (stay_of s code) answers (Halted stop memory) (memory_kept s code h) e
 
 pub answers_in_order : AnswersInOrder
 answers_in_order (Return state) answers = (answers, refl)

@@ -5,6 +5,7 @@ pub mod Answered
 pub mod Exits
 pub mod Switching
 pub mod UserBytes
+pub mod UserWords
 pub mod Putchar
 pub mod Puts
 pub mod Strlen
@@ -18,9 +19,11 @@ pub mod Sys
 pub mod KernelStep
 pub mod Played
 pub mod Touched
+pub mod Changes
 pub mod CauseLaws
 pub mod StayLaws
 pub mod PlayedLaws
+pub mod AccessLaws
 pub mod ProgramLaws
 pub mod UserLaws
 pub mod Equations

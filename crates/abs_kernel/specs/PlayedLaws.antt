@@ -1,14 +1,21 @@
 -- What holds of stays with a list of answers.
-use Rattle.std.specs.Prelude.{◌≡◌, ◌≢◌, ℕ, List, ◌++◌}
+use Rattle.std.specs.Prelude.{◌≡◌, ◌≢◌, ℕ, true, List, ◌++◌}
+use Rattle.psx_base.specs.declared.stop.Stop.{Stop}
+use Rattle.psx_base.specs.Memory.{Memory}
 use Rattle.psx_base.specs.KernelState.{KernelState}
 use Rattle.kern_layout.specs.Valid.{Valid}
+use Rattle.abs_kernel.specs.Changes.{changed, Changed, keeps_memory}
 use Rattle.abs_kernel.specs.Stay.{Stay}
 use Rattle.abs_kernel.specs.KernelStep.{stay_of}
-use Rattle.abs_kernel.specs.Played.{Access, Returned, Short, played, answers_of}
+use Rattle.abs_kernel.specs.Played.{Access, Returned, Halted, Short, played, answers_of}
 
--- with any answers a stay keeps the state valid
+-- with any answers a stay keeps the state valid, and changes what its call may change alone
 abbrev pub PlayedKeeps : Type 0
-PlayedKeeps = (s t : KernelState) (code : ℕ) (answers : List ℕ) → (played (stay_of s code) answers).end ≡ Returned t → Valid s → Valid t
+PlayedKeeps = (s t : KernelState) (code : ℕ) (answers : List ℕ) → (played (stay_of s code) answers).end ≡ Returned t → (Valid s → Valid t) × Changed (changed s code) s t
+
+-- and where it stops, one that may not change the user's memory left it as it was
+abbrev pub HaltedKeeps : Type 0
+HaltedKeeps = (s : KernelState) (code : ℕ) (answers : List ℕ) (stop : Stop) (memory : Memory) → keeps_memory (changed s code) ≡ true → (played (stay_of s code) answers).end ≡ Halted stop memory → memory ≡ s.memory
 
 -- the answers are used in order, one for each read, from the first on
 abbrev pub AnswersInOrder : Type 0

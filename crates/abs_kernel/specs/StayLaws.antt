@@ -1,5 +1,5 @@
 -- What holds of stays.
-use Rattle.std.specs.Prelude.{◌≡◌, ℕ, ◌<◌, None}
+use Rattle.std.specs.Prelude.{◌≡◌, ℕ, ◌<◌, true, None}
 use Rattle.psx_base.specs.declared.stop.Stop.{Stop}
 use Rattle.psx_base.specs.declared.stop.Stop.TheVariants.{Unserved}
 use Rattle.psx_base.specs.declared.stop.Table.{Table}
@@ -12,6 +12,7 @@ use Rattle.psx_base.specs.KernelState.{KernelState}
 use Rattle.kern_layout.specs.Valid.{Valid}
 use Rattle.abs_kernel.specs.CallTable.{served_call}
 use Rattle.abs_kernel.specs.Cause.{entrance_of}
+use Rattle.abs_kernel.specs.Changes.{changed, Changed, keeps_memory}
 use Rattle.abs_kernel.specs.Stay.{Stay, Return, Halt, Ask, Tell, Write, Touch}
 use Rattle.abs_kernel.specs.KernelStep.{stay_of}
 
@@ -59,9 +60,13 @@ UnservedStops = (s : KernelState) (code : ℕ) (table : Table) → entrance_of s
 
 -- ---- what a stay changes
 
--- it changes the running context, the user's memory and the state of random numbers alone
+-- where it returns, it changed what its call may change alone
 abbrev pub RestKept : Type 0
-RestKept = (s : KernelState) (code : ℕ) → EachReturn (λ t. t ≡ record s { running = t.running; memory = t.memory; random = t.random }) (stay_of s code)
+RestKept = (s : KernelState) (code : ℕ) → EachReturn (Changed (changed s code) s) (stay_of s code)
+
+-- one that may not change the user's memory leaves it as it is, also where it stops
+abbrev pub MemoryKept : Type 0
+MemoryKept = (s : KernelState) (code : ℕ) → keeps_memory (changed s code) ≡ true → EachEnd (λ t. t.memory ≡ s.memory) (λ stop memory. memory ≡ s.memory) (stay_of s code)
 
 -- it returns to the program at rest: k0 is the address and k1 is 0
 abbrev pub ReturnsAtRest : Type 0
