@@ -8,13 +8,13 @@ use Rattle.psx_flow.specs.Told.{ports}
 use Rattle.psx_flow.proofs.Log.{KernelWord}
 use Rattle.kern_layout.specs.Fields.{Block}
 use Rattle.kern_layout.specs.Contexts.{saved, saved_sr_of}
-use Rattle.kern_entry.specs.declared.places.TheConstants.{UNSERVED, EXCEPTION, EXIT, DONE, BACK, PUTCHAR, SYSCALLS, LEAVE, BEHIND, BAD_POINTER, BAD_THREAD, DEEP}
-use Rattle.kern_entry.specs.declared.calls.TheConstants.{EXIT_NODES, PUTCHAR_NODES}
+use Rattle.kern_entry.specs.declared.places.TheConstants.{UNSERVED, EXCEPTION, EXIT, DONE, BACK, SYSCALLS, LEAVE, BEHIND, BAD_POINTER, BAD_THREAD, DEEP}
+use Rattle.kern_entry.specs.declared.calls.TheConstants.{EXIT_NODES}
 use Rattle.kern_entry.specs.declared.stops.TheConstants.{UNSERVED_NODES, EXCEPTION_NODES, DONE_NODES, BACK_NODES, BAD_POINTER_NODES, BAD_THREAD_NODES, DEEP_NODES}
 use Rattle.kern_entry.specs.declared.sys.TheConstants.{SYSCALLS_NODES}
 use Rattle.kern_entry.specs.EntryWords.{tree}
 use Rattle.kern_entry.specs.Made.{Spared}
-use Rattle.kern_entry.proofs.WorkArea.{held, Holds, Entered, holds_on, applied_spared, spared_then, area_put, area_sr, area_r31}
+use Rattle.kern_entry.proofs.WorkArea.{held, AreaHolds, Entered, holds_on, applied_spared, spared_then, area_put, area_sr, area_r31}
 use Rattle.kern_entry.proofs.Choosing.{code_is}
 
 -- the last access writes a code to the halt port, behind these to ports
@@ -25,22 +25,16 @@ pub record Stops (code : ℕ) (writes : List Access) (m : Memory) (most : ℕ) (
   pub spared : Spared m e.bytes
   pub within : e.steps ≤ most
 
--- a routine comes with its answer to LEAVE
-pub record Answers (value : ℕ) (c : Registers) (pc : ℕ) (on : Bool) (m : Memory) (p : List Access) (most to : ℕ) (e : Run) : Type 0 where
-  pub to_is : to ≡ LEAVE
-  pub holds : Holds c pc on m p most e
-  pub answer : e.regs.r2 ≡ value
-
 -- the program's return comes to exit with its answer
 pub record Exits (value : ℕ) (c : Registers) (pc : ℕ) (on : Bool) (m : Memory) (p : List Access) (most to : ℕ) (e : Run) : Type 0 where
   pub to_is : to ≡ EXIT
-  pub holds : Holds c pc on m p most e
+  pub holds : AreaHolds c pc on m p most e
   pub value_is : e.regs.r4 ≡ value
 
 low_byte : (x : ℕ) → x * 2 ^ 24 % 2 ^ 32 / 2 ^ 24 ≡ x % 2 ^ 8
 low_byte x = omega arith
 
-pub exit_meets : (c : Registers) (pc : ℕ) (on : Bool) (m : Memory) (p : List Access) (most more v : ℕ) (s : Run) → Holds c pc on m p most s → s.regs.r4 ≡ v → most + 10 ≤ more
+pub exit_meets : (c : Registers) (pc : ℕ) (on : Bool) (m : Memory) (p : List Access) (most more v : ℕ) (s : Run) → AreaHolds c pc on m p most s → s.regs.r4 ≡ v → most + 10 ≤ more
     → Meets kernel_words (calls kernel_words []) (tree EXIT_NODES) EXIT (λ e. Stops 1 (PortWrite HALT_A v ∷ p) m more e) (λ _ _. ⊥) s
 exit_meets c pc on m p most more v s h e few =
     let within = h.within in
@@ -83,17 +77,7 @@ deep_meets m p v more s spared told e few =
     (record { rest = _; seen = refl; told = (λ i. PortWrite HALT_A (e i) ∷ told i); spared = spared; within = omega arith })
 
 -- from a context in the work area
-module _ (c : Registers) (pc : ℕ) (on : Bool) (m : Memory) (p : List Access) (most more : ℕ) (s : Run) (h : Holds c pc on m p most s) (few : most + 30 ≤ more) where
-  pub putchar_meets : s.regs.r4 ≡ c.r4 → Meets kernel_words (calls kernel_words []) (tree PUTCHAR_NODES) PUTCHAR (λ _. ⊥) (λ to e. Answers (c.r4 % 2 ^ 8) c pc on m (PortWrite CONSOLE_DATA c.r4 ∷ p) more to e) s
-  putchar_meets r4 =
-      let within = h.within in
-      start (calls kernel_words []) (fair kernel_words []) (tree PUTCHAR_NODES) PUTCHAR (λ _. ⊥) (λ to e. Answers (c.r4 % 2 ^ 8) c pc on m (PortWrite CONSOLE_DATA c.r4 ∷ p) more to e) s
-      (record {
-        to_is = refl;
-        holds = record { area = h.area; spared = h.spared; ports = (λ i. PortWrite CONSOLE_DATA (r4 i) ∷ h.ports i); within = omega arith };
-        answer = low_byte s.regs.r4 ∙ ap (λ x. x % 2 ^ 8) r4;
-      })
-
+module _ (c : Registers) (pc : ℕ) (on : Bool) (m : Memory) (p : List Access) (most more : ℕ) (s : Run) (h : AreaHolds c pc on m p most s) (few : most + 30 ≤ more) where
   -- an address that isn't user memory
   pub bad_pointer_meets : (v : ℕ) → s.regs.r8 ≡ v → Meets kernel_words (calls kernel_words []) (tree BAD_POINTER_NODES) BAD_POINTER (λ e. Stops 4 (PortWrite HALT_B c.r31 ∷ PortWrite HALT_A v ∷ p) m more e) (λ _ _. ⊥) s
   bad_pointer_meets v r8 =
@@ -117,9 +101,9 @@ abbrev pub was_on : Bool → ℕ
 was_on on = if on then 1 else 0
 
 abbrev pub SysGoes : (number : ℕ) (c : Registers) (epc : ℕ) (on : Bool) (m : Memory) (p : List Access) (most to : ℕ) (e : Run) → Type 0
-SysGoes zero c epc on m p most to e = (to ≡ BEHIND) × Holds c epc on m p most e
-SysGoes (suc zero) c epc on m p most to e = (to ≡ BEHIND) × Holds (record c { r2 = was_on on }) epc false m p most e
-SysGoes (suc (suc zero)) c epc on m p most to e = (to ≡ BEHIND) × Holds c epc true m p most e
+SysGoes zero c epc on m p most to e = (to ≡ BEHIND) × AreaHolds c epc on m p most e
+SysGoes (suc zero) c epc on m p most to e = (to ≡ BEHIND) × AreaHolds (record c { r2 = was_on on }) epc false m p most e
+SysGoes (suc (suc zero)) c epc on m p most to e = (to ≡ BEHIND) × AreaHolds c epc true m p most e
 SysGoes (suc (suc (suc n))) c epc on m p most to e = ⊥
 
 abbrev pub SysStops : (number : ℕ) (epc : ℕ) (m : Memory) (p : List Access) (most : ℕ) (e : Run) → Type 0

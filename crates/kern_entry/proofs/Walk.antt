@@ -18,7 +18,7 @@ use Rattle.psx_flow.specs.Run.{Run, Access, state_at, done}
 use Rattle.psx_flow.specs.Meets.{Holds, passing, branching, linking, Goal, Calls, Turns, Meets, calls}
 use Rattle.psx_flow.specs.Plain.{kernel_core}
 use Rattle.psx_flow.specs.Reaches.{Keeps, IsPlaced, ArePlaced}
-use Rattle.psx_flow.proofs.Rules.{decided}
+use Rattle.psx_flow.proofs.Rules.{decided, fair, meets_back}
 use Rattle.psx_flow.proofs.Step.{StandsAs, both, as_code}
 use Rattle.psx_flow.proofs.Kept.{done_keeps}
 use Rattle.psx_flow.proofs.Room.{room, spaced, clear, none_pending, clear_after, tree_spaced}
@@ -255,7 +255,7 @@ module _ (kept : ℕ → Bool) (first : Memory) (P : ℕ → Aim) (backs : Backs
         here = λ e ke z. absurd z;
         jump = λ a e ke z. subst (λ n. At b e n) (sym z.0) (o e ke z.1);
       }) in
-      split (nat_eq a l.0) refl (λ e k. subst (λ n. At b s n) (sym (eqb-true a l.0 e)) (w k)) (λ k. walk_calls ls pl.1 a ret K b s least ks lw o k) h
+      split (nat_eq a l.0) refl (λ e k. subst (λ n. At b s n) (sym (eqb-true a l.0 e)) (w (meets_back kept (calls kept ls) (fair kept ls) l.1 l.0 (λ _. ⊥) (λ b m. (b ≡ ret) × K m) s k))) (λ k. walk_calls ls pl.1 a ret K b s least ks lw o k) h
     where
       split : {X Y Z : Type 0} (v : Bool) → nat_eq a l.0 ≡ v → (nat_eq a l.0 ≡ true → X → Z) → (Y → Z) → cond v X Y → Z
       split true e f g h = f e h

@@ -6,8 +6,8 @@ use Rattle.psx_cpu.specs.Processor.{idle}
 use Rattle.psx_flow.specs.declared.node.Test.{Test}
 use Rattle.psx_flow.specs.Tree.{Tree, Stop, Do, When, Choose, Loop, Visit, Go, GoTo, size}
 use Rattle.psx_flow.specs.Run.{Run, done}
-use Rattle.psx_flow.specs.Meets.{passing, branching, linking, Goal, Calls, Turns, Meets, calls}
-use Rattle.psx_flow.proofs.Rules.{decided}
+use Rattle.psx_flow.specs.Meets.{passing, branching, linking, Goal, Calls, Turns, MeetsEach, Meets, calls}
+use Rattle.psx_flow.proofs.Rules.{decided, fair, meets_back}
 
 -- no state of a goal has made more than `most` steps
 abbrev pub Low : ℕ → Goal → Type 0
@@ -48,6 +48,6 @@ module _ (kept : ℕ → Bool) (most : ℕ) where
   low_calls [] = record { low = λ a back K s k h. absurd h }
   low_calls (l ∷ ls) = let f = low_calls ls in record { low = λ a back K s k h. go f a back K s k (nat_eq a l.0) h }
     where
-      go : LowCalls (calls kept ls) → (a back : ℕ) (K : Goal) (s : Run) → Low most K → (v : Bool) → cond v (Meets kept (calls kept ls) l.1 l.0 (λ _. ⊥) (λ b m. (b ≡ back) × K m) s) (calls kept ls a back K s) → s.steps ≤ most
-      go f a back K s k true h = low (calls kept ls) f l.1 l.0 (λ _. ⊥) (λ b m. (b ≡ back) × K m) s (λ e w. absurd w) (λ b e w. k e w.1) h
+      go : LowCalls (calls kept ls) → (a back : ℕ) (K : Goal) (s : Run) → Low most K → (v : Bool) → cond v (MeetsEach kept (calls kept ls) l.1 l.0 (λ _. ⊥) (λ _ _. ⊥) (λ b m. (b ≡ back) × K m) s) (calls kept ls a back K s) → s.steps ≤ most
+      go f a back K s k true h = low (calls kept ls) f l.1 l.0 (λ _. ⊥) (λ b m. (b ≡ back) × K m) s (λ e w. absurd w) (λ b e w. k e w.1) (meets_back kept (calls kept ls) (fair kept ls) l.1 l.0 (λ _. ⊥) (λ b m. (b ≡ back) × K m) s h)
       go f a back K s k false h = f.low a back K s k h

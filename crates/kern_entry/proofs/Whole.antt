@@ -42,7 +42,7 @@ use Rattle.kern_entry.specs.Within.{Aim, Within}
 use Rattle.kern_entry.specs.Made.{Made}
 use Rattle.kern_entry.specs.Tables.{destination, TableAt, TablesRead}
 use Rattle.kern_entry.specs.EntryLaws.{KeepsRest, AtRoutine, Begins, StaysBegin, kernel_at}
-use Rattle.kern_entry.proofs.WorkArea.{held, Holds, Entered}
+use Rattle.kern_entry.proofs.WorkArea.{held, AreaHolds, Entered}
 use Rattle.kern_entry.proofs.Saving.{Arrived, vector_meets, save_meets}
 use Rattle.kern_entry.proofs.Choosing.{arrival, causes_meets}
 use Rattle.kern_entry.proofs.Lookup.{Called, call_a_meets, call_b_meets, call_c_meets}
@@ -75,7 +75,7 @@ word_kept m e p ke low =
 table_kept : (go : CallId → ℕ) (m : Memory) (e : Run) (T : Table) (at count : ℕ) → Keeps kernel_words m e → at + 4 * count ≤ 0xB000 → TableAt go m T at count → TableAt go e.bytes T at count
 table_kept go m e T at count ke low t = λ n lt. word_kept m e (at + 4 * n) ke (omega arith) ∙ t n lt
 
-further : (c : Registers) (pc : ℕ) (on : Bool) (m : Memory) (p : List Access) (most more : ℕ) (e : Run) → most ≤ more → Holds c pc on m p most e → Holds c pc on m p more e
+further : (c : Registers) (pc : ℕ) (on : Bool) (m : Memory) (p : List Access) (most more : ℕ) (e : Run) → most ≤ more → AreaHolds c pc on m p most e → AreaHolds c pc on m p more e
 further c pc on m p most more e le h = record { area = h.area; spared = h.spared; ports = h.ports; within = omega (arith, h.within) }
 
 further_in : (c : Registers) (z : Cop0) (on : Bool) (m : Memory) (p : List Access) (most more : ℕ) (e : Run) → most ≤ more → Entered c z on m p most e → Entered c z on m p more e
@@ -168,14 +168,14 @@ module _ (go : CallId → ℕ) (m : Memory) (all : AllPlaced m) (tables : Tables
   abbrev behind : ℕ
   behind = (epc_of s.running.context + 4) % 2 ^ 32
 
-  sys_goes : (n : ℕ) (d : Registers) (off : Bool) (e : Run) → Keeps kernel_words m e → KeepsRest s (syscall n t) → Returns (syscall n t) d behind off [] → ((x : Run) → SysStops n z.epc m [] 130 x → ⊥) → ((to : ℕ) (x : Run) → SysGoes n c z.epc on m [] 130 to x → (to ≡ BEHIND) × Holds d z.epc off m [] 130 x)
+  sys_goes : (n : ℕ) (d : Registers) (off : Bool) (e : Run) → Keeps kernel_words m e → KeepsRest s (syscall n t) → Returns (syscall n t) d behind off [] → ((x : Run) → SysStops n z.epc m [] 130 x → ⊥) → ((to : ℕ) (x : Run) → SysGoes n c z.epc on m [] 130 to x → (to ≡ BEHIND) × AreaHolds d z.epc off m [] 130 x)
       → Meets kernel_words (calls kernel_words []) (tree SYSCALLS_NODES) SYSCALLS (λ x. SysStops n z.epc m [] 130 x) (λ to x. SysGoes n c z.epc on m [] 130 to x) e → Show (syscall n t) e SYSCALLS
   sys_goes n d off e ke own r none goes me =
       let stay = syscall n t in
       walks m (Z stay) (tree SYSCALLS_NODES) SYSCALLS (λ x. SysStops n z.epc m [] 130 x) (λ to x. SysGoes n c z.epc on m [] 130 to x) e all.syscalls ke (λ x b. absurd (none x b)) (λ a x g. low x (goes a x g).1) (λ x kx b. absurd (none x b))
       (λ a x kx g. let f = goes a x g in subst (λ y. Show stay x y) (sym f.0) (behind_shown m all stay (Z stay) (mine stay own) d z.epc off [] x kx f.1 r)) me
     where
-      low : (x : Run) → Holds d z.epc off m [] 130 x → x.steps ≤ 200
+      low : (x : Run) → AreaHolds d z.epc off m [] 130 x → x.steps ≤ 200
       low x h = omega (arith, h.within)
 
   sys_shown : (n : ℕ) (e : Run) → Keeps kernel_words m e → Entered c z on m [] 100 e → e.regs.r4 ≡ n → Show (syscall n t) e SYSCALLS

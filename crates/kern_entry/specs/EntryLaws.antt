@@ -116,7 +116,7 @@ BadThreadStops =
 abbrev pub DeepStops : Type 0
 DeepStops = (regs : Registers) (z : Cop0) (m u : Memory) → z.sr % 2 ≡ 0 → HoldsEntry m → Within (Made m (Halt (Deep regs.r31) u)) most_leave_steps (kernel_at regs z m DEEP) []
 
--- exit and putchar, from where they are called
+-- exit, from where it is called
 abbrev pub OwnCalls : (at : ℕ) → (KernelState → Stay) → Type 0
 OwnCalls at stay =
     (s : KernelState) (regs : Registers) (z : Cop0) (m : Memory) → z.sr % 2 ≡ 0 → HoldsContext m s.running

@@ -1,7 +1,6 @@
 //! What is proved of the entry's words.
 ghost use Rattle.abs_kernel.specs.Exits.{exits};
-ghost use Rattle.abs_kernel.specs.Putchar.{putchar};
-ghost use Rattle.kern_entry.specs.declared.places.TheConstants.{EXIT, PUTCHAR};
+ghost use Rattle.kern_entry.specs.declared.places.TheConstants.{EXIT};
 ghost use Rattle.kern_entry.specs.EntryLaws.{StaysBegin, LeaveReturns, WaitReturns, WorkReturns, BadPointerStops, BadThreadStops, DeepStops, OwnCalls};
 
 /// From the exception vector the entry's words, where they stand in memory, begin the stay of each entry from the user side, step by step and whatever the bus brings, in at most 202 steps:
@@ -20,8 +19,7 @@ pub fn routines_return()
     ensures deep { DeepStops }
 {}
 
-/// The entry's own two routines make their calls' stays. It does nothing.
+/// The entry's own routine makes its calls' stays. It does nothing.
 pub fn own_calls()
-    ensures exit { OwnCalls EXIT exits }
-    ensures putchar { OwnCalls PUTCHAR putchar }
+    ensures { OwnCalls EXIT exits }
 {}

@@ -50,9 +50,6 @@ pub const DONE: u32 = WORK + 0x60;
 /// The return of a callback by the gate E0h.
 pub const BACK: u32 = WORK + 0x80;
 
-/// Writes a character to the console.
-pub const PUTCHAR: u32 = WORK + 0xA0;
-
 /// A SYSCALL outside the gates.
 pub const SYSCALLS: u32 = WORK + 0x100;
 

@@ -10,20 +10,23 @@ ghost use Rattle.kern_entry.specs.EntryWords.{gate, return_words, vector_pieces,
 ghost use Rattle.psx_flow.specs.declared.listings.TheConstants as tested;
 ghost use Rattle.kern_entry.specs.declared.places.TheConstants as place;
 ghost use Rattle.kern_entry.specs.declared.save.TheConstants.{VECTOR_NODES, SAVE_NODES, CAUSES_NODES};
-ghost use Rattle.kern_entry.specs.declared.calls.TheConstants.{CALL_A_NODES, CALL_B_NODES, CALL_C_NODES, EXIT_NODES, PUTCHAR_NODES};
+ghost use Rattle.kern_entry.specs.declared.calls.TheConstants.{CALL_A_NODES, CALL_B_NODES, CALL_C_NODES, EXIT_NODES};
 ghost use Rattle.kern_entry.specs.declared.stops.TheConstants.{UNSERVED_NODES, EXCEPTION_NODES, DONE_NODES, BACK_NODES, BAD_POINTER_NODES, BAD_THREAD_NODES, DEEP_NODES};
 ghost use Rattle.kern_entry.specs.declared.sys.TheConstants.{SYSCALLS_NODES};
 ghost use Rattle.kern_entry.specs.declared.leave.TheConstants.{LEAVE_NODES, BEHIND_NODES, RESUME_NODES, RETURN, WORK_NODES};
 
-use crate::calls::{CALL_A_NODES, CALL_B_NODES, CALL_C_NODES, EXIT_NODES, PUTCHAR_NODES};
+use crate::calls::{CALL_A_NODES, CALL_B_NODES, CALL_C_NODES, EXIT_NODES};
 use crate::leave::{BEHIND_NODES, LEAVE_NODES, RESUME_NODES, RETURN, WORK_NODES};
 use crate::places::{
-    BACK, BAD_POINTER, BAD_THREAD, BEHIND, CACHED, CALL_A, CALL_B, CALL_C, CAUSES, DEEP, DONE, EXCEPTION, EXIT,
-    LEAVE, PUTCHAR, READ_BYTE, READ_WORD, RESUME, SAVE, SYSCALLS, UNSERVED, VECTOR, WORK,
+    BACK, BAD_POINTER, BAD_THREAD, BEHIND, CACHED, CALL_A, CALL_B, CALL_C, CAUSES, DEEP, DONE,
+    EXCEPTION, EXIT, LEAVE, READ_BYTE, READ_WORD, RESUME, SAVE, SYSCALLS, UNSERVED, VECTOR, WORK,
     WRITE_BYTE, WRITE_WORD,
 };
 use crate::save::{CAUSES_NODES, SAVE_NODES, VECTOR_NODES};
-use crate::stops::{BACK_NODES, BAD_POINTER_NODES, BAD_THREAD_NODES, DEEP_NODES, DONE_NODES, EXCEPTION_NODES, UNSERVED_NODES};
+use crate::stops::{
+    BACK_NODES, BAD_POINTER_NODES, BAD_THREAD_NODES, DEEP_NODES, DONE_NODES, EXCEPTION_NODES,
+    UNSERVED_NODES,
+};
 use crate::sys::SYSCALLS_NODES;
 use kern_layout::KernelBlock;
 use kern_layout::ranges::{GATE_A, GATE_B, GATE_BACK, GATE_C, GATE_DONE};
@@ -90,7 +93,6 @@ fn place_routines(block: &mut KernelBlock)
     put_listing(block, BAD_THREAD, &BAD_THREAD_NODES);
     put_listing(block, BAD_POINTER, &BAD_POINTER_NODES);
     put_listing(block, SYSCALLS, &SYSCALLS_NODES);
-    put_listing(block, PUTCHAR, &PUTCHAR_NODES);
     put_listing(block, BACK, &BACK_NODES);
     put_listing(block, DONE, &DONE_NODES);
     put_listing(block, EXIT, &EXIT_NODES);
@@ -132,8 +134,7 @@ pub fn apart()
     ensures work { EndsBy place.WORK WORK_NODES place.EXIT }
     ensures exit { EndsBy place.EXIT EXIT_NODES place.DONE }
     ensures done { EndsBy place.DONE DONE_NODES place.BACK }
-    ensures back { EndsBy place.BACK BACK_NODES place.PUTCHAR }
-    ensures putchar { EndsBy place.PUTCHAR PUTCHAR_NODES place.SYSCALLS }
+    ensures back { EndsBy place.BACK BACK_NODES place.SYSCALLS }
     ensures syscalls { EndsBy place.SYSCALLS SYSCALLS_NODES place.BAD_POINTER }
     ensures bad_pointer { EndsBy place.BAD_POINTER BAD_POINTER_NODES place.BAD_THREAD }
     ensures bad_thread { EndsBy place.BAD_THREAD BAD_THREAD_NODES place.DEEP }

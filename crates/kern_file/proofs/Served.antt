@@ -19,7 +19,14 @@ use Rattle.kern_file.proofs.A3cPutchar as of_putchar
 use Rattle.kern_file.proofs.A3ePuts as of_puts
 
 putchar_served : (m : Memory) → Stand (word m) file_pieces → IsServed m most_steps putchar PUTCHAR
-putchar_served m r = record { there = λ e. absurd (omega (arith, e)); own = []; own_placed = tt; listing = tree putchar_is.NODES; placed = placed_by m PUTCHAR (tree putchar_is.NODES) refl refl refl refl (r.1.1.1.0); serves = of_putchar.serves }
+putchar_served m r = record {
+  there = λ e. absurd (omega (arith, e));
+  own = [];
+  own_placed = tt;
+  listing = tree putchar_is.NODES;
+  placed = placed_by m PUTCHAR (tree putchar_is.NODES) refl refl refl refl (r.1.1.1.0);
+  serves = of_putchar.serves;
+}
 
 puts_served : (m : Memory) → Stand (word m) file_pieces → IsServedBy m most_steps puts PUTS
 puts_served m r = record {

@@ -22,7 +22,7 @@ pub const NODES: [Node; 5] = [
     Node::Jump(LEAVE),
 ];
 
-/// The listing of A3C and B3D, putchar(c). The entries of both tables lead to it. r4 is c; its low byte is written to the console, and it ends at LEAVE with that byte in r2.
+/// The listing of A3C and B3D, putchar(c), which writes c's low byte to the console. The entries of both tables lead to it with c in r4. It ends at LEAVE with that byte in r2.
 /// r26 is changed too.
 pub fn putchar() -> &'static [Node]
     ensures listing { result.now ≡ NODES }

@@ -44,7 +44,10 @@ pub const LOOP_NODES: [Node; 11] = [
     Node::Jump(PUTS_LOOP),
 ];
 
-/// The listing of the call, and that of its loop.
+/// The listing of A3E and B3F, puts(s), which writes the bytes from s on to the console, up to the first zero and without it; and that of its loop, which turns once a byte.
+/// The entries of both tables lead to the first with s in r4.
+/// They end at LEAVE with 0 in r2, at once where s is 0; or at BAD_POINTER with the first address in r8 that isn't user memory, and the bytes before it written.
+/// r8 to r12, r26 and r31 are changed too.
 pub fn puts() -> (&'static [Node], &'static [Node])
     ensures listing { result.0.now ≡ NODES }
     ensures turns { result.1.now ≡ LOOP_NODES }

@@ -1,4 +1,5 @@
 pub mod Bytes
+pub mod PlaceSearch
 pub mod Pieces
 pub mod RomLemmas
 pub mod Fixed

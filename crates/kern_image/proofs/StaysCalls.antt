@@ -14,8 +14,11 @@ use Rattle.kern_entry.specs.declared.places.TheConstants.{EXIT}
 use Rattle.kern_entry.proofs.Joins.{exit_called}
 use Rattle.kern_mem.specs.MemLaws.{mem_calls}
 use Rattle.kern_mem.proofs.Served.{mem_serves}
+use Rattle.kern_text.specs.TextLaws.{text_calls}
+use Rattle.kern_text.proofs.Served.{text_serves}
 use Rattle.kern_file.specs.FileLaws.{file_calls}
 use Rattle.kern_file.proofs.Served.{file_serves}
+use Rattle.kern_image.specs.Words.{joined}
 use Rattle.kern_image.specs.Rom.{rom}
 use Rattle.kern_image.specs.Tables.{routine_of}
 use Rattle.kern_image.proofs.StaysServed.{Serving, serving_more, by_listing, by_own}
@@ -34,15 +37,23 @@ find (p ∷ ps) id = if same_call p.0 id then Some p.1 else find ps id
 
 found : (P : CallId → ℕ → Type 0) (ps : List (CallId × ℕ)) (id : CallId) (at : ℕ) → EachAt P ps → find ps id ≡ Some at → P id at
 found P [] id at h e = absurd (cc)
-found P (p ∷ ps) id at h e = go (same_call p.0 id) refl e
+found P (p ∷ ps) id at h e = go (same_call p.0 id) refl (λ q. found P ps id at h.1 q) e
   where
-    go : (b : Bool) → same_call p.0 id ≡ b → (if b then Some p.1 else find ps id) ≡ Some at → P id at
-    go true w q = subst (λ i. P i at) (same_is p.0 id w) (subst (P p.0) (ap (λ o. unwrap_or o 0) q) h.0)
-    go false w q = found P ps id at h.1 q
+    go : (b : Bool) → same_call p.0 id ≡ b → (find ps id ≡ Some at → P id at) → (if b then Some p.1 else find ps id) ≡ Some at → P id at
+    go true w later q = subst (λ i. P i at) (same_is p.0 id w) (subst (P p.0) (ap (λ o. unwrap_or o 0) q) h.0)
+    go false w later q = later q
 
 each_both : (P : CallId → ℕ → Type 0) (ps qs : List (CallId × ℕ)) → EachAt P ps → EachAt P qs → EachAt P (ps ++ qs)
 each_both P [] qs h g = g
 each_both P (p ∷ ps) qs h g = (h.0, each_both P ps qs h.1 g)
+
+abbrev EachCrate : (CallId → ℕ → Type 0) → List (List (CallId × ℕ)) → Type 0
+EachCrate P [] = Unit {0}
+EachCrate P (ps ∷ pss) = EachAt P ps × EachCrate P pss
+
+each_joined : (P : CallId → ℕ → Type 0) (pss : List (List (CallId × ℕ))) → EachCrate P pss → EachAt P (joined pss)
+each_joined P [] h = tt
+each_joined P (ps ∷ pss) h = each_both P ps (joined pss) h.0 (each_joined P pss h.1)
 
 -- ---- all calls
 
@@ -51,11 +62,11 @@ abbrev entry_calls : List (CallId × ℕ)
 entry_calls = (A06, EXIT) ∷ (A3A, EXIT) ∷ (B38, EXIT) ∷ []
 
 -- crate by crate
-abbrev all_calls : List (CallId × ℕ)
-all_calls = entry_calls ++ (mem_calls ++ file_calls)
+abbrev all_calls : List (List (CallId × ℕ))
+all_calls = entry_calls ∷ mem_calls ∷ text_calls ∷ file_calls ∷ []
 
 -- the tables have each call at its crate's address
-placed : (id : CallId) → find all_calls id ≡ Some (routine_of id)
+placed : (id : CallId) → find (joined all_calls) id ≡ Some (routine_of id)
 placed A06 = refl
 placed _ = refl
 
@@ -77,10 +88,8 @@ module _ (m : Memory) (code : HoldsRom m rom) where
       let two = λ (s : IsServedBy m most_steps (call p.0) p.1). within (73 + most_steps + most_steps) p.0 p.1 (omega arith) (by_loop rom m (holds_entry m code) code most_steps (call p.0) p.1 s) in
       (⊎_elim one two h.0, by_crate ps h.1)
 
-  all_serve : EachAt ServingAt all_calls
-  all_serve =
-      let w = (pieces m code).1.1.1 in
-      each_both ServingAt entry_calls (mem_calls ++ file_calls) by_entry (each_both ServingAt mem_calls file_calls (by_crate mem_calls (mem_serves m w.0)) (by_crate file_calls (file_serves m w.1.1.0)))
+  all_serve : EachCrate ServingAt all_calls
+  all_serve = let w = (pieces m code).1.1.1 in (by_entry, (by_crate mem_calls (mem_serves m w.0), (by_crate text_calls (text_serves m w.1.0), (by_crate file_calls (file_serves m w.1.1.0), tt))))
 
   pub served : (id : CallId) → ServingAt id (routine_of id)
-  served id = found ServingAt all_calls id (routine_of id) all_serve (placed id)
+  served id = found ServingAt (joined all_calls) id (routine_of id) (each_joined ServingAt all_calls all_serve) (placed id)

@@ -24,6 +24,7 @@ use Rattle.abs_run.specs.InKernel.{InKernel, side_of}
 use Rattle.abs_run.specs.Serves.{Runs}
 use Rattle.kern_stay.specs.declared.places.TheConstants.{LEAVE, WAIT, WORK, BAD_POINTER, BAD_THREAD, DEEP}
 use Rattle.kern_stay.specs.Doors.{Answers, Waits, Works, Refuses, Overflows, AtReturn, AtHalt, AtWork, Ends}
+use Rattle.kern_stay.proofs.Ending.{works_end}
 use Rattle.kern_stay.specs.Words.{Stand}
 use Rattle.kern_entry.specs.Holding.{HoldsEntry}
 use Rattle.kern_entry.specs.EntryWords.{pieces}
@@ -155,10 +156,11 @@ module _ (rom : List ℕ) (a b c : ℕ) where
     working rest v e ke h =
         let c : ThreadContext = h.context in
         let t : KernelState = record h.state { running = record c { context = taken c.context c.context.pc } } in
-        let valid : Valid t = subst IsValid h.is v in
+        let is = works_end rest e h in
+        let valid : Valid t = subst IsValid is v in
         let r = h.holds.reads in
         let reads : Reads t (word e.bytes) (byte e.bytes) = record { threads = r.threads; events = r.events; frames = r.frames; chains = r.chains; heap = r.heap; files = r.files; line = r.line; variables = r.variables } in
-        subst (λ x. Runs_at x WORK e) (sym h.is)
+        subst (λ x. Runs_at x WORK e) (sym is)
         (return_runs e.bytes t valid reads h.holds.user (rom_kept first e.bytes ke.bytes code) 72 (kernel_core (state_at e WORK))
         (work_returns e.regs e.cop0 e.bytes c t ke.masked (record { words = entry_kept first e.bytes ke.bytes words; area = h.holds.area; settled = h.holds.settled }) refl))
 

@@ -21,6 +21,7 @@ use Rattle.abs_run.specs.Serves.{Runs}
 use Rattle.kern_stay.specs.Shared.{tested_there}
 use Rattle.kern_stay.specs.Follows.{after, Follows, given}
 use Rattle.kern_stay.specs.Doors.{Arrives, AtWork, Ends, worth_of, Through, called_with, begun, IsServed}
+use Rattle.kern_stay.proofs.Ending.{works_end}
 use Rattle.kern_stay.proofs.Telling.{after_ports, follows_ports}
 use Rattle.kern_entry.specs.Holding.{HoldsEntry}
 use Rattle.kern_entry.specs.EntryLaws.{KeepsRest, OwnCalls, kernel_at}
@@ -48,7 +49,7 @@ door_told flat stay told to e h = (ends_door (worth_of told) (after stay told) f
 to_work : (rom : List ℕ) (a b c : ℕ) (m : Memory) (words : HoldsEntry m) (code : HoldsRom m rom) (flat : ℕ) (rest : Stay) → IsValid rest → (to : ℕ) (e : Run) → Keeps kernel_words m e → AtWork rest flat to e → Runs rom (bare rest) 73 (at_core rom a b c (kernel_core (state_at e to)))
 to_work rom a b c m words code flat rest valid to e ke h =
     let P : Stay → Type 0 = λ x. Runs rom x 73 (at_core rom a b c (kernel_core (state_at e to))) in
-    subst (λ x. P x → P (bare x)) (sym h.2.is) (λ y. y) (at_work rom a b c m words code rest valid flat to e ke h)
+    subst (λ x. P x → P (bare x)) (sym (works_end rest e h.2)) (λ y. y) (at_work rom a b c m words code rest valid flat to e ke h)
 
 -- listings that stand, and others
 pub both_placed : (m : Memory) (ls rs : List (ℕ × Tree)) → ArePlaced kernel_words m ls → ArePlaced kernel_words m rs → ArePlaced kernel_words m (ls ++ rs)

@@ -8,9 +8,9 @@ unfoldable pub listed : (ℕ → ℕ) → ℕ → List ℕ
 listed f n = map f (range_with_len 0 n)
 
 -- lists one behind the other
-abbrev pub joined : List (List (ℕ × List ℕ)) → List (ℕ × List ℕ)
+abbrev pub joined : {X : Type 0} → List (List X) → List X
 joined [] = []
-joined (ps ∷ pss) = ps ++ joined pss
+joined (xs ∷ xss) = xs ++ joined xss
 
 -- the word at a place of a list of bytes, its lowest byte first
 abbrev pub word_of : List ℕ → ℕ → ℕ

@@ -15,6 +15,12 @@ use Rattle.kern_mem.specs.declared.a30_srand.TheConstants as srand_is
 use Rattle.kern_mem.specs.Own.{own}
 use Rattle.kern_mem.specs.MemWords.{mem_pieces}
 use Rattle.kern_stay.specs.Words.{Stand}
+use Rattle.kern_stay.specs.Doors.{IsServed, most_steps}
+use Rattle.abs_kernel.specs.Memcpy.{memcpy}
+use Rattle.abs_kernel.specs.Memset.{memset}
+use Rattle.abs_kernel.specs.Memchr.{memchr}
+use Rattle.abs_kernel.specs.Rand.{rand}
+use Rattle.abs_kernel.specs.Srand.{srand}
 use Rattle.kern_mem.specs.MemLaws.{MemServes}
 use Rattle.kern_mem.proofs.A2aMemcpy as of_memcpy
 use Rattle.kern_mem.proofs.A2bMemset as of_memset
@@ -25,14 +31,55 @@ use Rattle.kern_mem.proofs.A30Srand as of_srand
 own_placed : (m : Memory) → Stand (word m) mem_pieces → ArePlaced kernel_words m own
 own_placed m r = (placed_by m ROOM (tree ROOM_NODES) refl refl refl refl (r.1.1.1.1.0), tt)
 
+memcpy_served : (m : Memory) → Stand (word m) mem_pieces → IsServed m most_steps memcpy MEMCPY
+memcpy_served m r = record {
+  there = λ e. absurd (omega (arith, e));
+  own = own;
+  own_placed = own_placed m r;
+  listing = tree memcpy_is.NODES;
+  placed = placed_by m MEMCPY (tree memcpy_is.NODES) refl refl refl refl (r.1.1.1.1.1.0);
+  serves = of_memcpy.serves;
+}
+
+memset_served : (m : Memory) → Stand (word m) mem_pieces → IsServed m most_steps memset MEMSET
+memset_served m r = record {
+  there = λ e. absurd (omega (arith, e));
+  own = own;
+  own_placed = own_placed m r;
+  listing = tree memset_is.NODES;
+  placed = placed_by m MEMSET (tree memset_is.NODES) refl refl refl refl (r.0);
+  serves = of_memset.serves;
+}
+
+memchr_served : (m : Memory) → Stand (word m) mem_pieces → IsServed m most_steps memchr MEMCHR
+memchr_served m r = record {
+  there = λ e. absurd (omega (arith, e));
+  own = own;
+  own_placed = own_placed m r;
+  listing = tree memchr_is.NODES;
+  placed = placed_by m MEMCHR (tree memchr_is.NODES) refl refl refl refl (r.1.0);
+  serves = of_memchr.serves;
+}
+
+rand_served : (m : Memory) → Stand (word m) mem_pieces → IsServed m most_steps rand RAND
+rand_served m r = record {
+  there = λ e. absurd (omega (arith, e));
+  own = [];
+  own_placed = tt;
+  listing = tree rand_is.NODES;
+  placed = placed_by m RAND (tree rand_is.NODES) refl refl refl refl (r.1.1.0);
+  serves = of_rand.serves;
+}
+
+srand_served : (m : Memory) → Stand (word m) mem_pieces → IsServed m most_steps srand SRAND
+srand_served m r = record {
+  there = λ e. absurd (omega (arith, e));
+  own = [];
+  own_placed = tt;
+  listing = tree srand_is.NODES;
+  placed = placed_by m SRAND (tree srand_is.NODES) refl refl refl refl (r.1.1.1.0);
+  serves = of_srand.serves;
+}
+
 pub mem_serves : MemServes
-mem_serves m r =
-    (
-    inl (record { there = λ e. absurd (omega (arith, e)); own = own; own_placed = own_placed m r; listing = tree memset_is.NODES; placed = placed_by m MEMSET (tree memset_is.NODES) refl refl refl refl (r.0); serves = of_memset.serves }),
-    (
-    inl (record { there = λ e. absurd (omega (arith, e)); own = own; own_placed = own_placed m r; listing = tree memchr_is.NODES; placed = placed_by m MEMCHR (tree memchr_is.NODES) refl refl refl refl (r.1.0); serves = of_memchr.serves }),
-    (
-    inl (record { there = λ e. absurd (omega (arith, e)); own = []; own_placed = tt; listing = tree rand_is.NODES; placed = placed_by m RAND (tree rand_is.NODES) refl refl refl refl (r.1.1.0); serves = of_rand.serves }),
-    (
-    inl (record { there = λ e. absurd (omega (arith, e)); own = []; own_placed = tt; listing = tree srand_is.NODES; placed = placed_by m SRAND (tree srand_is.NODES) refl refl refl refl (r.1.1.1.0); serves = of_srand.serves }),
-    tt))))
+mem_serves m r = (inl (memcpy_served m r), (inl (memset_served m r), (inl (memchr_served m r), (inl (rand_served m r), (inl (srand_served m r), tt)))))

@@ -3,7 +3,8 @@ ghost use Rattle.std.specs.Prelude.{◌≡◌, IsTrue, IfSome};
 ghost use Rattle.psx_flow.specs.Reading.{tree_of};
 ghost use Rattle.psx_flow.specs.Well.{is_well};
 ghost use Rattle.psx_flow.specs.Spaced.{is_spaced};
-ghost use Rattle.abs_kernel.specs.Memcpy.{memcpy};
+ghost use Rattle.abs_kernel.specs.declared.calls.CallId.TheVariants.{A2A};
+ghost use Rattle.abs_kernel.specs.Calls.{call};
 ghost use Rattle.kern_stay.specs.Doors.{Serves, most_steps};
 ghost use Rattle.kern_mem.specs.Own.{own};
 ghost use Rattle.kern_mem.specs.declared.a2a_memcpy.TheConstants.{NODES};
@@ -61,13 +62,14 @@ pub const NODES: [Node; 41] = [
     Node::Jump(LEAVE),
 ];
 
-/// The listing of A2A, memcpy(d, s, n). The table's entry leads to it. r4 is d, r5 is s, r6 is n, and it ends at LEAVE with d in r2, or with 0 where d or s is 0.
-/// The first address that isn't user memory ends it at BAD_POINTER, with that address in r8. r9 to r13 and r31 are changed too.
+/// The listing of A2A, memcpy(d, s, n), which copies n bytes one by one, each source byte read before its destination byte is written. The table's entry leads to it with d in r4, s in r5 and n in r6.
+/// It ends at LEAVE with d in r2, or with 0 where d or s is 0; or at BAD_POINTER with the first address in r8 that isn't user memory, and the bytes before it copied.
+/// r8 to r13 and r31 are changed too.
 pub fn memcpy() -> &'static [Node]
     ensures listing { result.now ≡ NODES }
     ensures well { IsTrue (is_well result.now) }
     ensures spaced { IsTrue (is_spaced result.now) }
-    ensures serves { IfSome (tree_of result.now) (λ tree. Serves own most_steps memcpy MEMCPY tree) }
+    ensures serves { IfSome (tree_of result.now) (λ tree. Serves own most_steps (call A2A) MEMCPY tree) }
 {
     &NODES
 }

@@ -43,7 +43,9 @@ pub const NODES: [Node; 24] = [
     Node::Jump(LEAVE),
 ];
 
-/// The listing of the call.
+/// The listing of A2B, memset(d, c, n), which writes c's low byte n times from d on. The table's entry leads to it with d in r4, c in r5 and n in r6.
+/// It ends at LEAVE with d in r2, or with 0 where d is 0; or at BAD_POINTER with the first address in r8 that isn't user memory, and the bytes before it written.
+/// r8 to r11 and r31 are changed too.
 pub fn memset() -> &'static [Node]
     ensures listing { result.now ≡ NODES }
     ensures well { IsTrue (is_well result.now) }

@@ -49,7 +49,9 @@ pub const NODES: [Node; 30] = [
     Node::Jump(LEAVE),
 ];
 
-/// The listing of the call.
+/// The listing of A2E, memchr(s, c, n), which finds c's low byte among the n bytes from s on. The table's entry leads to it with s in r4, c in r5 and n in r6.
+/// It ends at LEAVE with the address of the first such byte in r2, or with 0 where there is none or s is 0; or at BAD_POINTER with the first address in r8 that isn't user memory.
+/// r5, r8 to r12 and r31 are changed too.
 pub fn memchr() -> &'static [Node]
     ensures listing { result.now ≡ NODES }
     ensures well { IsTrue (is_well result.now) }

@@ -28,7 +28,8 @@ pub const NODES: [Node; 11] = [
     Node::Jump(LEAVE),
 ];
 
-/// The listing of the call.
+/// The listing of A2F, rand(), which makes the next random state. The table's entry leads to it. It ends at LEAVE with bits 16 to 30 of that state in r2.
+/// r8 to r10, HI and LO are changed too.
 pub fn rand() -> &'static [Node]
     ensures listing { result.now ≡ NODES }
     ensures well { IsTrue (is_well result.now) }

@@ -21,7 +21,8 @@ pub const NODES: [Node; 4] = [
     Node::Jump(LEAVE),
 ];
 
-/// The listing of the call.
+/// The listing of A30, srand(x), which makes x the random state. The table's entry leads to it with x in r4. It ends at LEAVE with 0 in r2.
+/// r8 is changed too.
 pub fn srand() -> &'static [Node]
     ensures listing { result.now ≡ NODES }
     ensures well { IsTrue (is_well result.now) }

@@ -164,7 +164,7 @@ pub record KnowsCopy (place : ℕ) (C : Calls) : Type 1 where
 pub knows_copy : (place : ℕ) (ls : List (ℕ × Tree)) → KnowsCopy place (calls kernel_words ((place, tree COPY_NODES) ∷ ls))
 knows_copy place ls = record {
   copy = λ k c z m w q p from to count names known. record {
-    called = λ ok. first_call place (tree COPY_NODES) ls c.r31 (Anew k) (run c z m w q p) (gives_copy (calls kernel_words ls) (fair kernel_words ls) k c z m w q p from to count names known place);
+    called = λ ok. first_call place (tree COPY_NODES) ls c.r31 (Anew k) (run c z m w q p) refl (gives_copy (calls kernel_words ls) (fair kernel_words ls) k c z m w q p from to count names known place);
   };
 }
 

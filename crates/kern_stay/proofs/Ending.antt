@@ -1,10 +1,10 @@
 -- What the proof of a routine cites besides psx_flow's Kit: its ends, what is left of its stay, and its accesses to user memory.
-use Rattle.std.proofs.Common.{◌≡◌, ℕ, ◌+◌, ◌*◌, ◌%◌, ◌^◌, ◌/◌, ◌⊎◌, ◌<◌, ◌≤◌, [], inl, inr, Bool, true, false, refl, sym, ap, ◌∙◌, subst, arith}
+use Rattle.std.proofs.Common.{◌≡◌, ℕ, ◌+◌, ◌*◌, ◌%◌, ◌^◌, ◌/◌, ◌⊎◌, ◌<◌, ◌≤◌, List, [], ◌∷◌, inl, inr, Bool, true, false, refl, sym, ap, ◌∙◌, subst, arith}
 use Rattle.std.specs.Prelude.{nat_eq, ◌&&◌, ◌||◌, if◌then◌else◌}
 use Rattle.std.proofs.lemmas.Bool.{false≢true}
 use Rattle.psx_base.specs.Addresses.{place, user, top, low, user_main, scratchpad}
 use Rattle.psx_base.specs.Memory.{Memory, byte}
-use Rattle.psx_base.specs.KernelState.{KernelState}
+use Rattle.psx_base.specs.KernelState.{ThreadContext, Task, KernelState}
 use Rattle.psx_flow.specs.Run.{Run}
 use Rattle.psx_base.specs.declared.stop.Stop.TheVariants.{BadThread, Deep}
 use Rattle.psx_flow.specs.Told.{ports}
@@ -12,6 +12,7 @@ use Rattle.kern_layout.specs.Stands.{SameUser}
 use Rattle.abs_kernel.specs.Stay.{Stay, Halt}
 use Rattle.abs_kernel.specs.Answered.{registers_of, answered}
 use Rattle.abs_kernel.specs.UserBytes.{count_of, bad_pointer, reads_byte, writes_byte, with_byte}
+use Rattle.abs_kernel.specs.Work.{takes_up, IsWork}
 use Rattle.kern_stay.specs.declared.places.TheConstants.{LEAVE, WORK, BAD_POINTER, BAD_THREAD, DEEP}
 use Rattle.kern_stay.specs.Doors.{Holds, Works, Ends, Through}
 
@@ -29,6 +30,14 @@ refuses most state e stay is h few = subst (λ x. Ends 128 x most BAD_POINTER e)
 -- the tasks are done from WORK on
 pub works : (stay : Stay) (most : ℕ) (e : Run) → ports e.seen ≡ [] → Works stay e → e.steps ≤ most → Through stay most WORK e
 works stay most e q h few = record { told = []; ports = q; follows = tt; ends = inr (refl, few, h) }
+
+-- where no task is left
+pub work_is : (s : KernelState) (c : ThreadContext) (ts : List Task) (value ra : ℕ) (rest : Stay) → IsWork s c ts value ra rest → rest ≡ takes_up s c
+work_is s c [] value ra rest h = h
+work_is s c (t ∷ ts) value ra rest h = absurd h
+
+pub works_end : (rest : Stay) (e : Run) (h : Works rest e) → rest ≡ takes_up h.state h.context
+works_end rest e h = work_is h.state h.context h.tasks e.regs.r2 e.regs.r31 rest h.is
 
 -- a handle that names no thread, and a frame too many
 pub refuses_thread : (most : ℕ) (state : KernelState) (e : Run) (stay : Stay) → stay ≡ Halt (BadThread e.regs.r8 (registers_of state).r31) state.memory → Holds state e.bytes → e.steps ≤ most → Ends 128 stay most BAD_THREAD e

@@ -9,6 +9,7 @@ pub mod Telling
 pub mod Standing
 pub mod Cursor
 pub mod TwoCursors
+pub mod Looping
 pub mod Passing
 pub mod Copying
 pub mod Switching

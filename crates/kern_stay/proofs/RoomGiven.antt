@@ -89,7 +89,7 @@ pub knows_room : (place : ℕ) (ls : List (ℕ × Tree)) → KnowsRoom place (ca
 knows_room place ls = record {
   fair = fair kernel_words ((place, tree ROOM_NODES) ∷ ls);
   room = λ k c z m w q p h x. record {
-    called = λ ok. first_call place (tree ROOM_NODES) ls c.r31 (Anew k) (run c z m w q p) (gives (calls kernel_words ls) (fair kernel_words ls) k place c z m w q p h ok x);
+    called = λ ok. first_call place (tree ROOM_NODES) ls c.r31 (Anew k) (run c z m w q p) refl (gives (calls kernel_words ls) (fair kernel_words ls) k place c z m w q p h ok x);
   };
 }
 

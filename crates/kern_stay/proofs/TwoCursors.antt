@@ -1,5 +1,5 @@
 -- Two pointers on their way over n bytes each, in step, with k to come: at the first a byte is read, and at the other it is written.
-use Rattle.std.proofs.Common.{◌≡◌, ℕ, ◌+◌, ◌-◌, ◌%◌, ◌^◌, ◌<◌, ◌≤◌, true, false, refl, sym, ap, ◌∙◌, arith}
+use Rattle.std.proofs.Common.{◌≡◌, ℕ, ◌+◌, ◌-◌, ◌%◌, ◌^◌, ◌<◌, ◌≤◌, true, false, refl, ap, ◌∙◌, arith}
 use Rattle.psx_base.specs.Addresses.{user}
 use Rattle.psx_flow.proofs.Log.{byte_sort, User}
 use Rattle.psx_flow.proofs.Users.{sort_user}

@@ -5,7 +5,7 @@ use Rattle.psx_base.specs.declared.stop.Stop.TheVariants.{BadPointer, BadThread,
 use Rattle.psx_base.specs.Context.{taken, epc_of}
 use Rattle.psx_base.specs.Memory.{Memory, byte, word}
 use Rattle.psx_base.specs.Registers.{Registers, register}
-use Rattle.psx_base.specs.KernelState.{ThreadContext, KernelState}
+use Rattle.psx_base.specs.KernelState.{ThreadContext, Task, KernelState}
 use Rattle.psx_cpu.specs.Processor.{Cop0}
 use Rattle.psx_flow.specs.Tree.{Tree}
 use Rattle.psx_flow.specs.Run.{Run, Access}
@@ -22,7 +22,7 @@ use Rattle.kern_layout.specs.Stands.{SameUser}
 use Rattle.kern_layout.specs.Valid.{Valid}
 use Rattle.abs_kernel.specs.Stay.{Stay, Return, Halt, Touch}
 use Rattle.abs_kernel.specs.Answered.{registers_of, with_running, with_answer}
-use Rattle.abs_kernel.specs.Work.{takes_up}
+use Rattle.abs_kernel.specs.Work.{IsWork}
 use Rattle.kern_stay.specs.declared.places.TheConstants.{LEAVE, WAIT, WORK, BAD_POINTER, BAD_THREAD, DEEP}
 use Rattle.kern_stay.specs.Follows.{after, Follows}
 use Rattle.kern_stay.specs.Shared.{tested_there}
@@ -67,13 +67,15 @@ AtReturn t to e = cond (nat_eq to LEAVE) (Answers t e) (cond (nat_eq to WAIT) (W
 abbrev pub AtHalt : Stop → Memory → ℕ → Goal
 AtHalt stop memory to e = cond (nat_eq to BAD_POINTER) (Refuses BadPointer stop memory e) (cond (nat_eq to BAD_THREAD) (Refuses BadThread stop memory e) (cond (nat_eq to DEEP) (Overflows stop memory e) ⊥))
 
--- At WORK: the work area holds a context, and the tasks that come before it is taken up. No task is served yet: there must be none, and what is left of the stay is to take up the context.
+-- At WORK: the work area holds a context and the tasks that come before it is taken up, and what is left of the stay is to do these. r2 has the answer of the function that has returned, and r31 what a stop names.
+-- What is left with a task is in abs_kernel's `IsWork`, which knows none yet.
 pub record Works (rest : Stay) (e : Run) : Type 0 where
   pub state : KernelState
   pub context : ThreadContext
-  pub is : rest ≡ takes_up state context
+  pub tasks : List Task
+  pub is : IsWork state context tasks e.regs.r2 e.regs.r31 rest
   pub holds : Holds (record state { running = context }) e.bytes
-  pub tasks : TasksAt (word e.bytes) WORK_AREA []
+  pub there : TasksAt (word e.bytes) WORK_AREA tasks
 
 -- What is left at WORK is no end yet, so this door stands beside those of an end.
 abbrev pub AtWork : Stay → (most to : ℕ) → Goal

@@ -11,7 +11,7 @@ abbrev pub EachAt : (CallId → ℕ → Type 0) → List (CallId × ℕ) → Typ
 EachAt P [] = Unit {0}
 EachAt P (p ∷ ps) = P p.0 p.1 × EachAt P ps
 
--- a call is served, within so many nodes, by a listing, or by two of which one is a loop that accesses ports
+-- a call is served, within so many steps, by a listing, or by two of which one is a loop that accesses ports
 abbrev pub ServedAt : Memory → (most : ℕ) → CallId → ℕ → Type 0
 ServedAt m most id at = IsServed m most (call id) at ⊎ IsServedBy m most (call id) at
 

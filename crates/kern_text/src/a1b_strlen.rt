@@ -3,7 +3,8 @@ ghost use Rattle.std.specs.Prelude.{◌≡◌, IsTrue, IfSome};
 ghost use Rattle.psx_flow.specs.Reading.{tree_of};
 ghost use Rattle.psx_flow.specs.Well.{is_well};
 ghost use Rattle.psx_flow.specs.Spaced.{is_spaced};
-ghost use Rattle.abs_kernel.specs.Strlen.{strlen};
+ghost use Rattle.abs_kernel.specs.declared.calls.CallId.TheVariants.{A1B};
+ghost use Rattle.abs_kernel.specs.Calls.{call};
 ghost use Rattle.kern_stay.specs.Doors.{Serves, most_steps};
 ghost use Rattle.kern_text.specs.Own.{own};
 ghost use Rattle.kern_text.specs.declared.a1b_strlen.TheConstants.{NODES};
@@ -35,13 +36,14 @@ pub const NODES: [Node; 17] = [
     Node::Jump(BAD_POINTER),
 ];
 
-/// The listing of A1B, strlen(s). The table's entry leads to it. r4 is s, and r2 becomes the number of bytes before the first 0 from there on, or 0 where r4 is 0: it ends at LEAVE.
-/// The first address that isn't user memory ends it at BAD_POINTER, with that address in r8. r9 to r12 and r31 are changed too.
+/// The listing of A1B, strlen(s), which counts the bytes from s on before the first zero. The table's entry leads to it with s in r4.
+/// It ends at LEAVE with that number in r2, or with 0 where s is 0; or at BAD_POINTER with the first address in r8 that isn't user memory.
+/// r8 to r12 and r31 are changed too.
 pub fn strlen() -> &'static [Node]
     ensures listing { result.now ≡ NODES }
     ensures well { IsTrue (is_well result.now) }
     ensures spaced { IsTrue (is_spaced result.now) }
-    ensures serves { IfSome (tree_of result.now) (λ tree. Serves own most_steps strlen STRLEN tree) }
+    ensures serves { IfSome (tree_of result.now) (λ tree. Serves own most_steps (call A1B) STRLEN tree) }
 {
     &NODES
 }

@@ -7,7 +7,7 @@ use Rattle.psx_flow.specs.declared.node.Test.{Test}
 use Rattle.psx_flow.specs.Tree.{Tree, Stop, Do, When, Choose, Loop, Visit, Go, GoTo, size}
 use Rattle.psx_flow.specs.Run.{Run, done}
 use Rattle.psx_flow.specs.Meets.{passing, branching, linking}
-use Rattle.psx_flow.specs.Runs.{Ending, Falls, Goes, Then, TurnsOf, Called, Runs, called}
+use Rattle.psx_flow.specs.Runs.{Ending, Falls, Jumps, JumpsTo, Then, TurnsOf, Called, Runs, called}
 use Rattle.psx_flow.specs.Laws.{RunsTo}
 
 -- from s to e there are at most four steps for each node
@@ -16,24 +16,27 @@ Few s e = e.steps + 4 * s.passed ≤ s.steps + 4 * e.passed
 
 abbrev FewTo : Run → Ending → Type 0
 FewTo s (Falls e) = Few s e
-FewTo s (Goes to e) = Few s e
+FewTo s (Jumps to e) = Few s e
+FewTo s (JumpsTo to e) = Few s e
 
 -- a node with its slot, or an instruction, and what follows
 headed : (s m : Run) (e : Ending) → m.steps + 4 * s.passed ≤ s.steps + 4 * m.passed → FewTo m e → FewTo s e
 headed s m (Falls e) h f = omega (arith, h, f)
-headed s m (Goes to e) h f = omega (arith, h, f)
+headed s m (Jumps to e) h f = omega (arith, h, f)
+headed s m (JumpsTo to e) h f = omega (arith, h, f)
 
 -- a part behind its head, and what follows it: the branch behind the part is among the four steps of the head
 parted : (s m d : Run) (e : Ending) → d.steps ≤ m.steps + 2 → d.passed ≡ m.passed → Few (passing s) m → FewTo d e → FewTo s e
 parted s m d (Falls e) h p f g = omega (arith, h, p, f, g)
-parted s m d (Goes to e) h p f g = omega (arith, h, p, f, g)
+parted s m d (Jumps to e) h p f g = omega (arith, h, p, f, g)
+parted s m d (JumpsTo to e) h p f g = omega (arith, h, p, f, g)
 
 module _ (A B : Run → Ending → Type 0) (s : Run) (e : Ending) (next : Run → Run) (near : (m : Run) → ((next m).steps ≤ m.steps + 2) × ((next m).passed ≡ m.passed)) where
   then_few : ((x : Ending) → A (passing s) x → FewTo (passing s) x) → ((m : Run) → B (next m) e → FewTo (next m) e) → Then A (λ m. B (next m)) (passing s) e → FewTo s e
   then_few part rest h =
       ⊎_elim
       (λ t. parted s t.0 (next t.0) e (near t.0).0 (near t.0).1 (part (Falls t.0) t.1) (rest t.0 t.2))
-      (λ j. subst (FewTo s) (sym j.3) (headed s (passing s) (Goes j.0 j.1) (omega arith) (part (Goes j.0 j.1) j.2)))
+      (λ j. headed s (passing s) e (omega arith) (part e j.1))
       h
 
 itself_near : (m : Run) → (m.steps ≤ m.steps + 2) × (m.passed ≡ m.passed)
@@ -79,11 +82,12 @@ module _ (may : Ins → Context → Bool) where
   calls_few [] a back s m h = absurd h
   calls_few (l ∷ ls) a back s m h = go (calls_few ls) (nat_eq a l.0) h
     where
-      go : ((a back : ℕ) (s m : Run) → called may ls a back s m → Few s m) → (b : Bool) → cond b (Runs may (called may ls) l.1 l.0 s (Goes back m)) (called may ls a back s m) → Few s m
-      go few true k = tree_few (called may ls) few l.1 l.0 s (Goes back m) k
+      go : ((a back : ℕ) (s m : Run) → called may ls a back s m → Few s m) → (b : Bool) → cond b (Runs may (called may ls) l.1 l.0 s (JumpsTo back m)) (called may ls a back s m) → Few s m
+      go few true k = tree_few (called may ls) few l.1 l.0 s (JumpsTo back m) k
       go few false k = few a back s m k
 
   -- a listing's run, to where it comes to
   pub few_to : (ls : List (ℕ × Tree)) (T : Tree) (at : ℕ) (s e : Run) (to : ℕ) → RunsTo may (called may ls) T at s e to → Few s e
   few_to ls T at s e to h =
-      ⊎_elim (λ x. tree_few (called may ls) (calls_few ls) T at s (Falls e) x.1) (tree_few (called may ls) (calls_few ls) T at s (Goes to e)) h
+      ⊎_elim (λ x. tree_few (called may ls) (calls_few ls) T at s (Falls e) x.1)
+      (⊎_elim (tree_few (called may ls) (calls_few ls) T at s (Jumps to e)) (tree_few (called may ls) (calls_few ls) T at s (JumpsTo to e))) h

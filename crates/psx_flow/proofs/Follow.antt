@@ -15,7 +15,7 @@ use Rattle.psx_flow.specs.Spaced.{load_of}
 use Rattle.psx_flow.specs.Lowered.{opposite, always, nop, branch, target_of, code, in_reach, in_region, reaches}
 use Rattle.psx_flow.specs.Run.{Run, state_at, done, spares}
 use Rattle.psx_flow.specs.Meets.{passing, branching, linking}
-use Rattle.psx_flow.specs.Runs.{Ending, Goes, Called, Runs, called}
+use Rattle.psx_flow.specs.Runs.{Ending, JumpsTo, Called, Runs, called}
 use Rattle.psx_flow.specs.Plain.{board}
 use Rattle.psx_flow.specs.Reaches.{Keeps, IsPlaced, ArePlaced}
 use Rattle.psx_flow.proofs.Step.{StandsAs, as_code, both, standing}
@@ -155,7 +155,7 @@ module _ (kept : ℕ → Bool) (first : Memory) where
   follow_calls (l ∷ ls) pl a back c s m ks h =
       cond_split (nat_eq a l.0) _ _ _
       (λ e k. subst (λ n. Follows kept first (board s n c) c s.steps m back) (sym (eqb-true a l.0 e))
-      (follow_tree (called (spares kept) ls) (follow_calls ls pl.1) l.1 l.0 c s s.regs None (Goes back m) refl refl pl.0.fitting pl.0.reaching (tree_spaced l.1 [] refl pl.0.roomy) ks (as_code kept first l.0 (code l.1 l.0) pl.0.words) k))
+      (follow_tree (called (spares kept) ls) (follow_calls ls pl.1) l.1 l.0 c s s.regs None (JumpsTo back m) refl refl pl.0.fitting pl.0.reaching (tree_spaced l.1 [] refl pl.0.roomy) ks (as_code kept first l.0 (code l.1 l.0) pl.0.words) k))
       (λ e k. follow_calls ls pl.1 a back c s m ks k) h
 
   pub follow_listing : (ls : List (ℕ × Tree)) → ArePlaced kept first ls → (T : Tree) (at c : ℕ) (s : Run) (e : Ending) → IsPlaced kept first at T → Keeps kept first s → Runs (spares kept) (called (spares kept) ls) T at s e → Comes kept first (board s at c) c s.steps (at + 4 * size T) e

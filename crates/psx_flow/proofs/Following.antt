@@ -12,7 +12,7 @@ use Rattle.psx_flow.specs.Tree.{Tree, size}
 use Rattle.psx_flow.specs.Lowered.{opposite}
 use Rattle.psx_flow.specs.Run.{Run}
 use Rattle.psx_flow.specs.Meets.{Holds, passing, branching, linking}
-use Rattle.psx_flow.specs.Runs.{Ending, Falls, Goes, Then, TurnsOf}
+use Rattle.psx_flow.specs.Runs.{Ending, Falls, Jumps, JumpsTo, IsJump, Then, TurnsOf}
 use Rattle.psx_flow.specs.Plain.{Board, went, onward, seen_at, on, steps, board}
 use Rattle.psx_flow.specs.Reaches.{Keeps}
 use Rattle.psx_flow.proofs.Step.{standing}
@@ -66,7 +66,8 @@ module _ (kept : ℕ → Bool) (first : Memory) where
 
   abbrev pub Comes : Board → ℕ → ℕ → ℕ → Ending → Type 0
   Comes x c n end (Falls e) = Follows x c n e end
-  Comes x c n end (Goes to e) = Follows x c n e to
+  Comes x c n end (Jumps to e) = Follows x c n e to
+  Comes x c n end (JumpsTo to e) = Follows x c n e to
 
   -- words that do the same whatever the bus brings
   abbrev pub Always : ℕ → Board → Board → Type 0
@@ -125,18 +126,27 @@ module _ (kept : ℕ → Bool) (first : Memory) where
 
   pub words_come : (k c n m : ℕ) (x y : Board) (end : ℕ) (e : Ending) → Always k x y → n + k ≡ m → Comes y (c + k) m end e → Comes x c n end e
   words_come k c n m x y end (Falls e) move more q = after_words k c n m x y e end move more q
-  words_come k c n m x y end (Goes to e) move more q = after_words k c n m x y e to move more q
+  words_come k c n m x y end (Jumps to e) move more q = after_words k c n m x y e to move more q
+  words_come k c n m x y end (JumpsTo to e) move more q = after_words k c n m x y e to move more q
 
   pub one_comes : (c n : ℕ) (x : Board) (y : Bus → Board) (b : Bus) (end : ℕ) (e : Ending) → x.clock ≡ c → b.value < 2 ^ 32 → ((bus : ℕ → Bus) → Moves kept bus first 1 x (y (bus c))) → (y b).clock ≡ c + 1 → Comes (y b) (c + 1) (suc n) end e → Comes x c n end e
   one_comes c n x y b end (Falls e) clock small move clock' q = after_one c n x y b e end clock small move clock' q
-  one_comes c n x y b end (Goes to e) clock small move clock' q = after_one c n x y b e to clock small move clock' q
+  one_comes c n x y b end (Jumps to e) clock small move clock' q = after_one c n x y b e to clock small move clock' q
+  one_comes c n x y b end (JumpsTo to e) clock small move clock' q = after_one c n x y b e to clock small move clock' q
 
   pub then_come : (c n : ℕ) (x : Board) (m : Run) (b end : ℕ) (e : Ending) → x.clock ≡ c → Follows x c n m b → ((d : ℕ) → Comes (board m b d) d m.steps end e) → Comes x c n end e
   then_come c n x m b end (Falls e) clock p q = then_words c n x m b e end clock p (q (c + p.count))
-  then_come c n x m b end (Goes to e) clock p q = then_words c n x m b e to clock p (q (c + p.count))
+  then_come c n x m b end (Jumps to e) clock p q = then_words c n x m b e to clock p (q (c + p.count))
+  then_come c n x m b end (JumpsTo to e) clock p q = then_words c n x m b e to clock p (q (c + p.count))
 
   pub ends_come : (c n : ℕ) (x : Board) (end end' : ℕ) (e : Ending) → end ≡ end' → Comes x c n end e → Comes x c n end' e
   ends_come c n x end end' e f q = subst (λ t. Comes x c n t e) f q
+
+  -- a jump doesn't come to the place behind the last word
+  jump_comes : (c n : ℕ) (x : Board) (end end' : ℕ) (e : Ending) → IsJump e → Comes x c n end e → Comes x c n end' e
+  jump_comes c n x end end' (Falls e) j q = absurd j
+  jump_comes c n x end end' (Jumps to e) j q = q
+  jump_comes c n x end end' (JumpsTo to e) j q = q
 
   pub rest_comes : (c n : ℕ) (s : Run) (raw : Registers) (p : Option (ℕ × ℕ)) (at end : ℕ) (e : Ending) → settled raw p ≡ s.regs → p ≡ None → Comes (board s at c) c n end e → Comes (standing (pending_at s raw p at) s.seen c) c n end e
   rest_comes c n s raw p at end e f none q =
@@ -164,7 +174,7 @@ module _ (kept : ℕ → Bool) (first : Memory) where
       (λ t. let p : Follows (board s at c) c s.steps t.0 mid = part (Falls t.0) t.1 in
       then_come c s.steps (board s at c) t.0 mid end e refl p
       (λ d. words_come k d t.0.steps (next t.0).steps (board t.0 mid d) (board (next t.0) to (d + k)) end e (over d t.0 p.keeps) (step t.0).0 (rest (d + k) (next t.0) e ((step t.0).1 p.keeps) t.2)))
-      (λ j. subst (λ x. Comes (board s at c) c s.steps end x) (sym j.3) (part (Goes j.0 j.1) j.2))
+      (λ j. jump_comes c s.steps (board s at c) mid end e j.0 (part e j.1))
       h
 
   -- no words lead over, or those of a branch

@@ -1,8 +1,10 @@
 -- What a routine takes of the listings of `tested` that it calls, wherever they stand.
-use Rattle.psx_flow.proofs.Kit.{◌≡◌, ℕ, ◌^◌, ◌<◌, List, [], ◌∷◌, false, refl, sym, subst, Memory, Registers, Cop0, Goal, Calls, calls, Access, Run, Tree, Meets, Fair, fair, Part, Anew, Calling, Count, run, Entry, kernel_words}
+use Rattle.psx_flow.proofs.Kit.{◌≡◌, ℕ, ◌^◌, ◌<◌, List, [], ◌∷◌, true, false, refl, sym, subst, Memory, Registers, Cop0, Goal, Calls, calls, Access, Run, Tree, Meets, Fair, fair, Part, Anew, Calling, Count, run, Entry, kernel_words}
 use Rattle.std.proofs.Common.{cond, eq-eqb}
 use Rattle.std.specs.Prelude.{nat_eq}
 use Rattle.psx_flow.specs.declared.kinds.Tested.TheVariants.{ReadByte, WriteByte, ReadWord, WriteWord}
+use Rattle.psx_flow.specs.Meets.{MeetsEach}
+use Rattle.psx_flow.proofs.Rules.{no_jump, by_no_jump}
 use Rattle.psx_flow.proofs.TestedTrees.{tree}
 use Rattle.psx_flow.proofs.Accesses.{ReadsByte, WritesByte, ReadsWord, WritesWord, reads_byte, writes_byte, reads_word, writes_word}
 
@@ -32,12 +34,14 @@ pub record Knows (P : Places) (C : Calls) : Type 1 where
   pub read_word : (k : Part) (c : Registers) (z : Cop0) (m : Memory) (w : List Entry) (q : List Access) (p : Count) → c.r8 < 2 ^ 32 → ReadsWord k c z m w q p → Calling C P.read_word c.r31 k c z m w q p
   pub write_word : (k : Part) (c : Registers) (z : Cop0) (m : Memory) (w : List Entry) (q : List Access) (p : Count) → c.r8 < 2 ^ 32 → WritesWord k c z m w q p → Calling C P.write_word c.r31 k c z m w q p
 
--- a call of the first listing, and of one behind it
-pub first_call : (a : ℕ) (T : Tree) (ls : List (ℕ × Tree)) (back : ℕ) (K : Goal) (s : Run) → Meets kernel_words (calls kernel_words ls) T a (λ _. ⊥) (λ b m. (b ≡ back) × K m) s → calls kernel_words ((a, T) ∷ ls) a back K s
-first_call a T ls back K s h = subst (λ b. cond b (Meets kernel_words (calls kernel_words ls) T a (λ _. ⊥) (λ b m. (b ≡ back) × K m) s) (calls kernel_words ls a back K s)) (sym (eq-eqb a a refl)) h
+-- a call of the first listing, which holds no Jump, and of one behind it
+pub first_call : (a : ℕ) (T : Tree) (ls : List (ℕ × Tree)) (back : ℕ) (K : Goal) (s : Run) → no_jump T ≡ true → Meets kernel_words (calls kernel_words ls) T a (λ _. ⊥) (λ b m. (b ≡ back) × K m) s → calls kernel_words ((a, T) ∷ ls) a back K s
+first_call a T ls back K s none h =
+    subst (λ b. cond b (MeetsEach kernel_words (calls kernel_words ls) T a (λ _. ⊥) (λ _ _. ⊥) (λ b m. (b ≡ back) × K m) s) (calls kernel_words ls a back K s)) (sym (eq-eqb a a refl))
+    (by_no_jump kernel_words (calls kernel_words ls) (fair kernel_words ls) T a _ _ _ _ s none (λ m x. x) h)
 
 pub later_call : (a : ℕ) (l : ℕ × Tree) (ls : List (ℕ × Tree)) (back : ℕ) (K : Goal) (s : Run) → nat_eq a l.0 ≡ false → calls kernel_words ls a back K s → calls kernel_words (l ∷ ls) a back K s
-later_call a l ls back K s e h = subst (λ b. cond b (Meets kernel_words (calls kernel_words ls) l.1 l.0 (λ _. ⊥) (λ b m. (b ≡ back) × K m) s) (calls kernel_words ls a back K s)) (sym e) h
+later_call a l ls back K s e h = subst (λ b. cond b (MeetsEach kernel_words (calls kernel_words ls) l.1 l.0 (λ _. ⊥) (λ _ _. ⊥) (λ b m. (b ≡ back) × K m) s) (calls kernel_words ls a back K s)) (sym e) h
 
 -- the four
 pub knows_tested : (P : Places) → Apart P → Knows P (calls kernel_words (tested_at P))
@@ -52,22 +56,22 @@ knows_tested P far =
     record {
       fair = fair kernel_words (tested_at P);
       read_byte = λ k c z m w q p h x. record {
-        called = λ ok. first_call P.read_byte (tree ReadByte) ls0 c.r31 (Anew k) (run c z m w q p) (reads_byte (calls kernel_words ls0) (fair kernel_words ls0) k P.read_byte c z m w q p h ok x);
+        called = λ ok. first_call P.read_byte (tree ReadByte) ls0 c.r31 (Anew k) (run c z m w q p) refl (reads_byte (calls kernel_words ls0) (fair kernel_words ls0) k P.read_byte c z m w q p h ok x);
       };
       write_byte = λ k c z m w q p h x. record {
         called = λ ok. later_call P.write_byte l0 ls0 c.r31 (Anew k) (run c z m w q p) far.write_byte
-            (first_call P.write_byte (tree WriteByte) ls1 c.r31 (Anew k) (run c z m w q p) (writes_byte (calls kernel_words ls1) (fair kernel_words ls1) k P.write_byte c z m w q p h ok x));
+            (first_call P.write_byte (tree WriteByte) ls1 c.r31 (Anew k) (run c z m w q p) refl (writes_byte (calls kernel_words ls1) (fair kernel_words ls1) k P.write_byte c z m w q p h ok x));
       };
       read_word = λ k c z m w q p h x. record {
         called = λ ok. later_call P.read_word l0 ls0 c.r31 (Anew k) (run c z m w q p) far.read_word
             (later_call P.read_word l1 ls1 c.r31 (Anew k) (run c z m w q p) far.read_word'
-            (first_call P.read_word (tree ReadWord) ls2 c.r31 (Anew k) (run c z m w q p) (reads_word (calls kernel_words ls2) (fair kernel_words ls2) k P.read_word c z m w q p h ok x)));
+            (first_call P.read_word (tree ReadWord) ls2 c.r31 (Anew k) (run c z m w q p) refl (reads_word (calls kernel_words ls2) (fair kernel_words ls2) k P.read_word c z m w q p h ok x)));
       };
       write_word = λ k c z m w q p h x. record {
         called = λ ok. later_call P.write_word l0 ls0 c.r31 (Anew k) (run c z m w q p) far.write_word
             (later_call P.write_word l1 ls1 c.r31 (Anew k) (run c z m w q p) far.write_word'
             (later_call P.write_word l2 ls2 c.r31 (Anew k) (run c z m w q p) far.write_word''
-            (first_call P.write_word (tree WriteWord) [] c.r31 (Anew k) (run c z m w q p) (writes_word (calls kernel_words []) (fair kernel_words []) k P.write_word c z m w q p h ok x))));
+            (first_call P.write_word (tree WriteWord) [] c.r31 (Anew k) (run c z m w q p) refl (writes_word (calls kernel_words []) (fair kernel_words []) k P.write_word c z m w q p h ok x))));
       };
     }
 

@@ -10,7 +10,7 @@ use Rattle.psx_flow.specs.Well.{enters_or_leaves}
 use Rattle.psx_flow.specs.Spaced.{touches}
 use Rattle.psx_flow.specs.Run.{Run, Access, accessed, state_at, spares}
 use Rattle.psx_flow.specs.Meets.{Meets, calls}
-use Rattle.psx_flow.specs.Runs.{Falls, Goes, Called, any, Runs, called}
+use Rattle.psx_flow.specs.Runs.{Falls, Jumps, JumpsTo, Called, any, Runs, called}
 use Rattle.psx_flow.specs.Plain.{steps, board}
 use Rattle.psx_flow.specs.Reaches.{IsPlaced, ArePlaced, Reaches}
 
@@ -36,9 +36,9 @@ LoadsSettle = (i : Ins) (x : State) (bus : Bus) → LeavesAlone i x.context.pend
 
 -- ---- runs
 
--- a run that comes to an address: behind the last word, or by a jump
+-- a run that comes to an address: behind the last word, or by a Jump or JumpTo
 abbrev pub RunsTo : (Ins → Context → Bool) → Called → Tree → ℕ → Run → Run → ℕ → Type 0
-RunsTo may R T at s e to = ((to ≡ at + 4 * size T) × Runs may R T at s (Falls e)) ⊎ Runs may R T at s (Goes to e)
+RunsTo may R T at s e to = ((to ≡ at + 4 * size T) × Runs may R T at s (Falls e)) ⊎ (Runs may R T at s (Jumps to e) ⊎ Runs may R T at s (JumpsTo to e))
 
 -- a listing with those that it calls, in a state: they stand at their addresses, and interrupts are off
 pub record IsGiven (kept : ℕ → Bool) (ls : List (ℕ × Tree)) (T : Tree) (at : ℕ) (s : Run) : Type 0 where

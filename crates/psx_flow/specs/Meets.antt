@@ -45,25 +45,29 @@ Turns (suc n) t body K s = (Holds (opposite t) s.regs → K (passing s)) × (Hol
 
 module _ (kept : ℕ → Bool) where
   -- The tree that stands at `at`, run from s, whatever the bus brings: no instruction traps, or stores over a word that is kept, or turns interrupts on;
-  -- each call comes back; and the run ends, behind the last word in a state of K, or by a jump to an address a in a state of G a.
-  abbrev pub Meets : Calls → Tree → ℕ → Goal → (ℕ → Goal) → Goal
-  Meets C Stop at K G s = K s
-  Meets C (Do i r) at K G s =
+  -- each call comes back; and the run ends, behind the last word in a state of K, by a Jump to an address a in a state of J a, or by a JumpTo to an address a in a state of G a.
+  abbrev pub MeetsEach : Calls → Tree → ℕ → Goal → (ℕ → Goal) → (ℕ → Goal) → Goal
+  MeetsEach C Stop at K J G s = K s
+  MeetsEach C (Do i r) at K J G s =
       (trap_of i (state_at s at).context ≡ None) × (spares kept i (state_at s at).context ≡ true)
-      × ((bus : Bus) → bus.value < 2 ^ 32 → Meets C r (at + 4) K G (done i s at bus))
-  Meets C (When t a r) at K G s =
-      (Holds t s.regs → Meets C a (at + 8) (Meets C r (at + (8 + 4 * size a)) K G) G (passing s))
-      × (Holds (opposite t) s.regs → Meets C r (at + (8 + 4 * size a)) K G (passing s))
-  Meets C (Choose t a b r) at K G s =
-      (Holds t s.regs → Meets C a (at + 8) (λ m. Meets C r (at + (16 + 4 * size a + 4 * size b)) K G (branching m)) G (passing s))
-      × (Holds (opposite t) s.regs → Meets C b (at + (16 + 4 * size a)) (Meets C r (at + (16 + 4 * size a + 4 * size b)) K G) G (passing s))
-  Meets C (Loop t a r) at K G s =
-      (n : ℕ) × Turns n t (λ L. Meets C a (at + 8) L G) (Meets C r (at + (16 + 4 * size a)) K G) s
-  Meets C (Visit a r) at K G s = C a (at + 8) (Meets C r (at + 8) K G) (linking s (at + 8))
-  Meets C (Go a r) at K G s = G a (passing s)
-  Meets C (GoTo n r) at K G s = G (register s.regs n.0) (passing s)
+      × ((bus : Bus) → bus.value < 2 ^ 32 → MeetsEach C r (at + 4) K J G (done i s at bus))
+  MeetsEach C (When t a r) at K J G s =
+      (Holds t s.regs → MeetsEach C a (at + 8) (MeetsEach C r (at + (8 + 4 * size a)) K J G) J G (passing s))
+      × (Holds (opposite t) s.regs → MeetsEach C r (at + (8 + 4 * size a)) K J G (passing s))
+  MeetsEach C (Choose t a b r) at K J G s =
+      (Holds t s.regs → MeetsEach C a (at + 8) (λ m. MeetsEach C r (at + (16 + 4 * size a + 4 * size b)) K J G (branching m)) J G (passing s))
+      × (Holds (opposite t) s.regs → MeetsEach C b (at + (16 + 4 * size a)) (MeetsEach C r (at + (16 + 4 * size a + 4 * size b)) K J G) J G (passing s))
+  MeetsEach C (Loop t a r) at K J G s =
+      (n : ℕ) × Turns n t (λ L. MeetsEach C a (at + 8) L J G) (MeetsEach C r (at + (16 + 4 * size a)) K J G) s
+  MeetsEach C (Visit a r) at K J G s = C a (at + 8) (MeetsEach C r (at + 8) K J G) (linking s (at + 8))
+  MeetsEach C (Go a r) at K J G s = J a (passing s)
+  MeetsEach C (GoTo n r) at K J G s = G (register s.regs n.0) (passing s)
 
-  -- The calls of a list of listings with their addresses, each of which calls only those behind it: a call comes back where it jumps to the address behind the call.
+  -- whichever jump it ends by
+  abbrev pub Meets : Calls → Tree → ℕ → Goal → (ℕ → Goal) → Goal
+  Meets C T at K G = MeetsEach C T at K G G
+
+  -- The calls of a list of listings with their addresses, each of which calls only those behind it: a call comes back by a JumpTo to the address behind the call.
   abbrev pub calls : List (ℕ × Tree) → Calls
   calls [] a back K s = ⊥
-  calls (l ∷ ls) a back K s = cond (nat_eq a l.0) (Meets (calls ls) l.1 l.0 (λ _. ⊥) (λ b m. (b ≡ back) × K m) s) (calls ls a back K s)
+  calls (l ∷ ls) a back K s = cond (nat_eq a l.0) (MeetsEach (calls ls) l.1 l.0 (λ _. ⊥) (λ _ _. ⊥) (λ b m. (b ≡ back) × K m) s) (calls ls a back K s)

@@ -11,14 +11,20 @@ use Rattle.psx_flow.specs.Lowered.{opposite}
 use Rattle.psx_flow.specs.Run.{Run, state_at, done}
 use Rattle.psx_flow.specs.Meets.{Holds, passing, branching, linking}
 
--- behind the last word, or by a jump to an address
+-- behind the last word, or by a Jump or a JumpTo to an address
 pub data Ending : Type 0 where
   Falls : Run → Ending
-  Goes : ℕ → Run → Ending
+  Jumps : ℕ → Run → Ending
+  JumpsTo : ℕ → Run → Ending
+
+abbrev pub IsJump : Ending → Type 0
+IsJump (Falls e) = ⊥
+IsJump (Jumps a e) = Unit {0}
+IsJump (JumpsTo a e) = Unit {0}
 
 -- one part, and what follows it unless the part jumps
 abbrev pub Then : (Run → Ending → Type 0) → (Run → Ending → Type 0) → Run → Ending → Type 0
-Then A B s e = ((m : Run) × A s (Falls m) × B m e) ⊎ ((b : ℕ) × (m : Run) × A s (Goes b m) × (e ≡ Goes b m))
+Then A B s e = ((m : Run) × A s (Falls m) × B m e) ⊎ (IsJump e × A s e)
 
 -- n turns at most, and what follows the loop
 abbrev pub TurnsOf : ℕ → Test → (Run → Ending → Type 0) → (Run → Ending → Type 0) → Run → Ending → Type 0
@@ -44,10 +50,10 @@ module _ (may : Ins → Context → Bool) where
       ⊎ (Holds (opposite t) s.regs × Then (Runs R b (at + (16 + 4 * size a))) (Runs R r (at + (16 + 4 * size a + 4 * size b))) (passing s) e)
   Runs R (Loop t a r) at s e = (n : ℕ) × TurnsOf n t (Runs R a (at + 8)) (Runs R r (at + (16 + 4 * size a))) s e
   Runs R (Visit a r) at s e = (m : Run) × R a (at + 8) (linking s (at + 8)) m × Runs R r (at + 8) m e
-  Runs R (Go a r) at s e = e ≡ Goes a (passing s)
-  Runs R (GoTo n r) at s e = e ≡ Goes (register s.regs n.0) (passing s)
+  Runs R (Go a r) at s e = e ≡ Jumps a (passing s)
+  Runs R (GoTo n r) at s e = e ≡ JumpsTo (register s.regs n.0) (passing s)
 
-  -- the listings with their addresses, each of which calls only those behind it: a call runs to a jump to the address behind it
+  -- the listings with their addresses, each of which calls only those behind it: a call runs to a JumpTo whose register holds the address behind the call
   abbrev pub called : List (ℕ × Tree) → Called
   called [] a back s m = ⊥
-  called (l ∷ ls) a back s m = cond (nat_eq a l.0) (Runs (called ls) l.1 l.0 s (Goes back m)) (called ls a back s m)
+  called (l ∷ ls) a back s m = cond (nat_eq a l.0) (Runs (called ls) l.1 l.0 s (JumpsTo back m)) (called ls a back s m)
