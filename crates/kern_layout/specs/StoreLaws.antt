@@ -5,7 +5,7 @@ use Rattle.kern_layout.specs.Fields.{Block, Stack}
 use Rattle.kern_layout.specs.Contexts.{saved, thread_fields}
 use Rattle.kern_layout.specs.Tasks.{elements_of, lines_of, under_way_fields, TasksAt, FrameAt}
 use Rattle.kern_layout.specs.HeapTable.{HeapAt, entry_fields, cell_at, LinksWritten}
-use Rattle.kern_layout.specs.Stores.{Same, Kept, SameBytes, put, with_field, with_thread, with_event, with_frame, with_chain}
+use Rattle.kern_layout.specs.Stores.{Same, SameOutside, SameBytes, put, with_field, with_thread, with_event, with_frame, with_chain}
 use Rattle.kern_layout.specs.Reads.{Reads, thread, event, frame, chain, event_fields, file_fields, thread_at, event_at, frame_at, file_at, chain_at, ChainAt, variables}
 use Rattle.kern_layout.specs.Valid.{Valid}
 use Rattle.kern_layout.specs.declared.places.TheConstants.{THREAD_FREE, EVENT_STATUS, THREAD_SIZE, EVENT_SIZE, FRAME_SIZE, FRAME_KIND, FRAME_ELEMENT_COUNT, FRAME_LINE_COUNT, KIND_NONE, WORK_AREA, CHAIN_SIZE, CHAIN_ELEMENTS, HEAP_ENTRIES, HEAP_ENTRY_SIZE, HEAP_BLOCK_SIZE, NEXT, FRAME_COUNT, THREAD_COUNT, LINE_LENGTH, HEAP_BASE, HEAP_FIRST, HEAP_SPARE}
@@ -23,7 +23,7 @@ TurnsWords s t w x b c = SameBytes line_at variables_at b c → Turns s t w x b 
 
 -- only thread n's block is written, and then has the fields of t
 abbrev pub ThreadWritten : Type 0
-ThreadWritten = (s : KernelState) (w x b c : ℕ → ℕ) (n : ℕ) (t : Thread) → n < length s.threads → Kept (thread_at n) (thread_at n + THREAD_SIZE) w x → Block x (thread_at n) (thread_fields s.current n t) → TurnsWords s (with_thread s n t) w x b c
+ThreadWritten = (s : KernelState) (w x b c : ℕ → ℕ) (n : ℕ) (t : Thread) → n < length s.threads → SameOutside (thread_at n) (thread_at n + THREAD_SIZE) w x → Block x (thread_at n) (thread_fields s.current n t) → TurnsWords s (with_thread s n t) w x b c
 
 -- v is stored to the field at o, which makes the thread's fields those of t
 abbrev pub ThreadStored : Type 0
@@ -40,7 +40,7 @@ ThreadSwitched = (s : KernelState) (w x b c : ℕ → ℕ) (n : ℕ) (t : Thread
 -- ---- events
 
 abbrev pub EventWritten : Type 0
-EventWritten = (s : KernelState) (w x b c : ℕ → ℕ) (i : ℕ) (e : Event) → i < length s.events → Kept (event_at i) (event_at i + EVENT_SIZE) w x → Block x (event_at i) (event_fields i e) → TurnsWords s (with_event s i e) w x b c
+EventWritten = (s : KernelState) (w x b c : ℕ → ℕ) (i : ℕ) (e : Event) → i < length s.events → SameOutside (event_at i) (event_at i + EVENT_SIZE) w x → Block x (event_at i) (event_fields i e) → TurnsWords s (with_event s i e) w x b c
 
 abbrev pub EventStored : Type 0
 EventStored = (s : KernelState) (w b c : ℕ → ℕ) (i o v : ℕ) (e : Event) → i < length s.events → o < EVENT_SIZE → with_field (event_fields i (event s i)) o v ≡ event_fields i e → TurnsWords s (with_event s i e) w (put w (event_at i + o) v) b c
@@ -63,7 +63,7 @@ VariableStored = (s : KernelState) (w b c : ℕ → ℕ) (o v : ℕ) (next : Opt
 -- ---- frames
 
 abbrev pub FrameWritten : Type 0
-FrameWritten = (s : KernelState) (w x b c : ℕ → ℕ) (n : ℕ) (f : Frame) → n < length s.frames → Kept (frame_at n) (frame_at n + FRAME_SIZE) w x → FrameAt x (frame_at n) f → TurnsWords s (with_frame s n f) w x b c
+FrameWritten = (s : KernelState) (w x b c : ℕ → ℕ) (n : ℕ) (f : Frame) → n < length s.frames → SameOutside (frame_at n) (frame_at n + FRAME_SIZE) w x → FrameAt x (frame_at n) f → TurnsWords s (with_frame s n f) w x b c
 
 -- a field of the context that frame n keeps
 abbrev pub FrameContextStored : Type 0
@@ -107,7 +107,7 @@ LineTaken = (w : ℕ → ℕ) (at n : ℕ) (ts : List Task) → at % 4 ≡ 0 →
 -- ---- chains
 
 abbrev pub ChainWritten : Type 0
-ChainWritten = (s : KernelState) (w x b c : ℕ → ℕ) (p : ℕ) (es : List ℕ) → p < 4 → Kept (chain_at p) (chain_at p + CHAIN_SIZE) w x → ChainAt x (chain_at p) es → TurnsWords s (with_chain s p es) w x b c
+ChainWritten = (s : KernelState) (w x b c : ℕ → ℕ) (p : ℕ) (es : List ℕ) → p < 4 → SameOutside (chain_at p) (chain_at p + CHAIN_SIZE) w x → ChainAt x (chain_at p) es → TurnsWords s (with_chain s p es) w x b c
 
 -- an element becomes the head: its word behind the others, and the count
 abbrev pub ChainLinked : Type 0
