@@ -1,6 +1,6 @@
 //! Addresses of the processor, and what they reach.
-ghost use Rattle.std.specs.Prelude.{◌≡◌, IsTrue, ◌↔◌};
-ghost use Rattle.psx_base.specs.Addresses.{segment_of, physical_of, user, gate_of};
+ghost use Rattle.std.specs.Prelude.{◌≡◌, ◌≤◌, ◌^◌, IsTrue, ◌↔◌};
+ghost use Rattle.psx_base.specs.Addresses.{segment_of, physical_of, place as place_of, user, gate_of};
 ghost use Rattle.psx_base.specs.FirstBad.{first_bad_of};
 
 /// A virtual address of the processor, of a byte.
@@ -53,6 +53,20 @@ impl Addr {
         match self.segment() {
             Some(_) => Some(self.0 % 0x2000_0000),
             None => None,
+        }
+    }
+
+    /// The physical address, or 2^29, where there is none: no memory and no port stands there.
+    #[inline]
+    pub fn place(self) -> u32
+        ensures value { result ≡ place_of self.0 }
+        ensures small { result ≤ 2 ^ 29 }
+    {
+        let top = self.0 / 0x2000_0000;
+        if top == 0 || top == 4 || top == 5 {
+            self.0 % 0x2000_0000
+        } else {
+            0x2000_0000
         }
     }
 

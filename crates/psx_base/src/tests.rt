@@ -19,6 +19,8 @@ fn addresses_at_the_edges(rt: HostRuntime) {
     assert_eq!(rt; Addr(0xBFC0_0000).physical(), Some(0x1FC0_0000));
     assert_eq!(rt; Addr(0xC000_0000).segment(), None);
     assert_eq!(rt; Addr(0xC000_0000).physical(), None);
+    assert_eq!(rt; Addr(0xBFC0_0000).place(), 0x1FC0_0000);
+    assert_eq!(rt; Addr(0xC000_0000).place(), 0x2000_0000);
     assert!(rt; !Addr(0xC001_0000).is_user());
 }
 

@@ -1,24 +1,10 @@
 //! What loads read and stores write.
 ghost use Rattle.std.specs.Prelude.{◌≡◌, ◌+◌, ◌%◌, ◌^◌, ◌<◌, ◌≤◌};
-ghost use Rattle.psx_base.specs.Addresses;
 ghost use Rattle.psx_base.specs.Memory.{is_mapped, is_writable};
 ghost use Rattle.psx_cpu.specs.DataAccess;
 
+use psx_base::Addr;
 use psx_ram::Ram;
-
-// The physical address, or 2^29 where there is none.
-#[inline]
-pub(crate) fn place(at: u32) -> u32
-    ensures value { result ≡ Addresses.place at }
-    ensures small { result ≤ 2 ^ 29 }
-{
-    let top = at / 0x2000_0000;
-    if top == 0 || top == 4 || top == 5 {
-        at % 0x2000_0000
-    } else {
-        0x2000_0000
-    }
-}
 
 // Whether so many bytes can be read from a physical address on.
 #[inline]
@@ -50,7 +36,7 @@ pub(crate) fn read_word(ram: &Ram, at: u32) -> u32
     if low < 0x20_0000 {
         return ram.word(low);
     }
-    let to = place(at);
+    let to = Addr(at).place();
     if is_there(to, 4) { ram.word(to) } else { 0 }
 }
 
@@ -60,7 +46,7 @@ pub(crate) fn read_half(ram: &Ram, at: u32) -> u16
     requires { at % 2 ≡ 0 }
     ensures { result ≡ DataAccess.read_half ram.now at }
 {
-    let to = place(at);
+    let to = Addr(at).place();
     if is_there(to, 2) { ram.half(to) } else { 0 }
 }
 
@@ -69,7 +55,7 @@ pub(crate) fn read_half(ram: &Ram, at: u32) -> u16
 pub(crate) fn read_byte(ram: &Ram, at: u32) -> u8
     ensures { result ≡ DataAccess.read_byte ram.now at }
 {
-    let to = place(at);
+    let to = Addr(at).place();
     if is_there(to, 1) { ram.byte(to) } else { 0 }
 }
 
@@ -79,7 +65,7 @@ pub(crate) fn write_word(ram: &mut Ram, at: u32, value: u32)
     requires { at % 4 ≡ 0 }
     ensures { ram.new ≡ DataAccess.write_word ram.old at value }
 {
-    let to = place(at);
+    let to = Addr(at).place();
     if takes(to) {
         ram.set_word(to, value);
     }
@@ -91,7 +77,7 @@ pub(crate) fn write_half(ram: &mut Ram, at: u32, value: u16)
     requires { at % 2 ≡ 0 }
     ensures { ram.new ≡ DataAccess.write_half ram.old at value }
 {
-    let to = place(at);
+    let to = Addr(at).place();
     if takes(to) {
         ram.set_half(to, value);
     }
@@ -102,7 +88,7 @@ pub(crate) fn write_half(ram: &mut Ram, at: u32, value: u16)
 pub(crate) fn write_byte(ram: &mut Ram, at: u32, value: u8)
     ensures { ram.new ≡ DataAccess.write_byte ram.old at value }
 {
-    let to = place(at);
+    let to = Addr(at).place();
     if takes(to) {
         ram.set_byte(to, value);
     }

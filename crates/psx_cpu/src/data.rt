@@ -8,7 +8,7 @@ ghost use Rattle.psx_cpu.specs.Views.{core_of};
 ghost use Rattle.psx_cpu.specs.Step.{decided, Does};
 
 use crate::access::{
-    loaded_left, loaded_right, place, read_byte, read_half, read_word, stored_left, stored_right,
+    loaded_left, loaded_right, read_byte, read_half, read_word, stored_left, stored_right,
     write_byte, write_half, write_word,
 };
 use crate::arithmetic as number;
@@ -87,7 +87,7 @@ impl Cpu {
         if !self.may_use(at) {
             return Did::Stopped(Stop::UserData { pc: self.pc(), at });
         }
-        let to = place(at);
+        let to = Addr(at).place();
         if is_port(to) {
             self.load(t, bus.value);
             return Did::PortRead {
@@ -194,7 +194,7 @@ impl Cpu {
             return Did::Stopped(Stop::UserData { pc: self.pc(), at });
         }
         let value = self.reg(t);
-        let to = place(at);
+        let to = Addr(at).place();
         write_word(ram, at, value);
         self.pass();
         if is_port(to) {

@@ -6,7 +6,7 @@ mod access;
 mod arithmetic;
 pub mod cpu;
 mod data;
-mod flow;
+mod outcomes;
 mod peek;
 mod perform;
 pub mod step;

@@ -4,10 +4,10 @@ ghost use Rattle.std.specs.Option.{option_map};
 ghost use Rattle.psx_cpu.specs.Views.{core_of};
 ghost use Rattle.psx_cpu.specs.Step.{step, port_read};
 
-use crate::access::{place, read_word};
+use crate::access::read_word;
 use crate::cpu::Cpu;
 use crate::step::PortRead;
-use psx_base::is_port;
+use psx_base::{Addr, is_port};
 use psx_ins::reg::Reg;
 use psx_ram::Ram;
 
@@ -39,7 +39,7 @@ impl Cpu {
         if at % 4 != 0 {
             return None;
         }
-        let to = place(at);
+        let to = Addr(at).place();
         if is_port(to) {
             Some(PortRead { at: to })
         } else {

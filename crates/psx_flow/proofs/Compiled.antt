@@ -18,7 +18,7 @@ use Rattle.psx_flow.specs.Spaced.{load_of}
 use Rattle.psx_flow.specs.Lowered.{opposite, always, nop, branch, target_of, code, in_reach, in_region, reaches}
 use Rattle.psx_flow.specs.Run.{Run, state_at, done}
 use Rattle.psx_flow.specs.Meets.{Holds, passing, branching, linking, Goal, Calls, Turns, MeetsEach}
-use Rattle.psx_flow.specs.Plain.{Board, board}
+use Rattle.psx_flow.specs.Plain.{Execution, executing}
 use Rattle.psx_flow.specs.Reaches.{Keeps}
 use Rattle.psx_flow.proofs.Rules.{decided}
 use Rattle.psx_flow.proofs.Step.{StandsAs, both, standing}
@@ -46,16 +46,16 @@ pub even_two : (at n m : ℕ) → at % 4 ≡ 0 → (at + (16 + 4 * n + 4 * m)) %
 even_two at n m h = omega arith
 
 -- where a tree's run ends
-abbrev pub Ends : ℕ → Goal → (ℕ → Goal) → (ℕ → Goal) → Run → ℕ → Type 0
-Ends to K I G e b = ((b ≡ to) × K e) ⊎ (I b e ⊎ G b e)
+abbrev pub EndsAt : ℕ → Goal → (ℕ → Goal) → (ℕ → Goal) → Run → ℕ → Type 0
+EndsAt to K I G e b = ((b ≡ to) × K e) ⊎ (I b e ⊎ G b e)
 
 module _ (kept : ℕ → Bool) (bus : ℕ → Bus) (few : (n : ℕ) → (bus n).value < 2 ^ 32) (first : Memory) where
   module _ (C : Calls) (known : (a ret : ℕ) (K : Goal) (c : ℕ) (s : Run) → Keeps kept first s → C a ret K s → From kept bus first c s a (λ e b. (b ≡ ret) × K e)) where
-    ends_at : (x to : ℕ) (K : Goal) (I G : ℕ → Goal) (b : Board) (c : ℕ) (s : Run) → x ≡ to → Leads kept bus first b c s (Ends x K I G) → Leads kept bus first b c s (Ends to K I G)
-    ends_at x to K I G b c s e r = subst (λ y. Leads kept bus first b c s (Ends y K I G)) e r
+    ends_at : (x to : ℕ) (K : Goal) (I G : ℕ → Goal) (b : Execution) (c : ℕ) (s : Run) → x ≡ to → Leads kept bus first b c s (EndsAt x K I G) → Leads kept bus first b c s (EndsAt to K I G)
+    ends_at x to K I G b c s e r = subst (λ y. Leads kept bus first b c s (EndsAt y K I G)) e r
 
     -- a part of a tree, and what follows it
-    go_on : (x y : ℕ) (L : Goal) (I G : ℕ → Goal) (Z : Run → ℕ → Type 0) (b : Board) (c : ℕ) (s : Run) → x ≡ y → ((d : ℕ) (e : Run) → Keeps kept first e → L e → From kept bus first d e y Z) → ((e : Run) (t : ℕ) → I t e ⊎ G t e → Z e t) → Leads kept bus first b c s (Ends x L I G) → Leads kept bus first b c s Z
+    go_on : (x y : ℕ) (L : Goal) (I G : ℕ → Goal) (Z : Run → ℕ → Type 0) (b : Execution) (c : ℕ) (s : Run) → x ≡ y → ((d : ℕ) (e : Run) → Keeps kept first e → L e → From kept bus first d e y Z) → ((e : Run) (t : ℕ) → I t e ⊎ G t e → Z e t) → Leads kept bus first b c s (EndsAt x L I G) → Leads kept bus first b c s Z
     go_on x y L I G Z b c s e f g r =
         reach_then kept bus first b c s _ Z r (λ d m t km. ⊎_elim (λ z. subst (λ a. From kept bus first d m a Z) (sym (z.0 ∙ e)) (f d m km z.1)) (λ k. reach_here kept bus first d m t Z km (g m t k)))
 
@@ -70,27 +70,27 @@ module _ (kept : ℕ → Bool) (bus : ℕ → Bus) (few : (n : ℕ) → (bus n).
 
     -- a loop, from its head
     turns_run : (n c : ℕ) (t : Test) (a : Tree) (at end : ℕ) (Z : Run → ℕ → Type 0) (I G : ℕ → Goal) (K : Goal) (s : Run)
-        → ((L : Goal) (d : ℕ) (e : Run) → Keeps kept first e → MeetsEach kept C a (at + 8) L I G e → From kept bus first d e (at + 8) (Ends (at + (8 + 4 * size a)) L I G))
+        → ((L : Goal) (d : ℕ) (e : Run) → Keeps kept first e → MeetsEach kept C a (at + 8) L I G e → From kept bus first d e (at + 8) (EndsAt (at + (8 + 4 * size a)) L I G))
         → ((d : ℕ) (e : Run) → Keeps kept first e → K e → From kept bus first d e end Z)
         → ((e : Run) (b : ℕ) → I b e ⊎ G b e → Z e b)
-        → ((d : ℕ) (e : Run) → Keeps kept first e → Holds t e.regs → Moves kept bus first 2 (board e at d) (board e (at + 8) (d + 2)))
-        → ((d : ℕ) (e : Run) → Keeps kept first e → Holds (opposite t) e.regs → Moves kept bus first 2 (board e at d) (board e end (d + 2)))
-        → ((d : ℕ) (e : Run) → Keeps kept first e → Moves kept bus first 2 (board e (at + (8 + 4 * size a)) d) (board e at (d + 2)))
+        → ((d : ℕ) (e : Run) → Keeps kept first e → Holds t e.regs → Moves kept bus first 2 (executing e at d) (executing e (at + 8) (d + 2)))
+        → ((d : ℕ) (e : Run) → Keeps kept first e → Holds (opposite t) e.regs → Moves kept bus first 2 (executing e at d) (executing e end (d + 2)))
+        → ((d : ℕ) (e : Run) → Keeps kept first e → Moves kept bus first 2 (executing e (at + (8 + 4 * size a)) d) (executing e at (d + 2)))
         → Keeps kept first s → Turns n t (λ L. MeetsEach kept C a (at + 8) L I G) K s → From kept bus first c s at Z
     turns_run zero c t a at end Z I G K s body rest out into past back ks h = absurd h
     turns_run (suc n) c t a at end Z I G K s body rest out into past back ks h =
         ⊎_elim
-        (λ y. reach_after kept bus first 2 c s (passing s) _ (board (passing s) (at + 8) (c + 2)) Z (into c s ks y) (omega arith)
+        (λ y. reach_after kept bus first 2 c s (passing s) _ (executing (passing s) (at + 8) (c + 2)) Z (into c s ks y) (omega arith)
         (go_on (at + (8 + 4 * size a)) (at + (8 + 4 * size a)) _ I G Z _ (c + 2) (passing s) refl
-        (λ d m km z. reach_after kept bus first 2 d m (branching m) _ (board (branching m) at (d + 2)) Z (back d m km) (omega arith)
+        (λ d m km z. reach_after kept bus first 2 d m (branching m) _ (executing (branching m) at (d + 2)) Z (back d m km) (omega arith)
         (turns_run n (d + 2) t a at end Z I G K (branching m) body rest out into past back (branching_keeps m km) z))
         out (body _ (c + 2) (passing s) (passing_keeps s ks) (h.1 y))))
-        (λ y. reach_after kept bus first 2 c s (passing s) _ (board (passing s) end (c + 2)) Z (past c s ks y) (omega arith) (rest (c + 2) (passing s) (passing_keeps s ks) (h.0 y)))
+        (λ y. reach_after kept bus first 2 c s (passing s) _ (executing (passing s) end (c + 2)) Z (past c s ks y) (omega arith) (rest (c + 2) (passing s) (passing_keeps s ks) (h.0 y)))
         (decided t s.regs)
 
     pub run_tree : (T : Tree) (at : ℕ) (K : Goal) (I G : ℕ → Goal) (c : ℕ) (s : Run) (raw : Registers) (p : Option (ℕ × ℕ)) → settled raw p ≡ s.regs → clear p T ≡ true
         → fits T ≡ true → reaches T at ≡ true → spaced T ≡ true → Keeps kept first s → StandsAs kept first at (code T at) → MeetsEach kept C T at K I G s
-        → Leads kept bus first (standing (pending_at s raw p at) s.seen c) c s (Ends (at + 4 * size T) K I G)
+        → Leads kept bus first (standing (pending_at s raw p at) s.seen c) c s (EndsAt (at + 4 * size T) K I G)
     run_tree Stop at K I G c s raw p e clr f w sp ks st h =
         let end : at ≡ at + 4 * 0 = omega arith in
         at_rest kept bus first s raw p at c _ e (none_pending p Stop clr refl) (reach_here kept bus first c s at _ ks (inl (end, h)))
@@ -112,13 +112,13 @@ module _ (kept : ℕ → Bool) (bus : ℕ → Bus) (few : (n : ℕ) → (bus n).
         let body = subst (λ n. StandsAs kept first n (code a (at + 8) ++ code r end)) e8 st.1.1 in
         let to : at + 8 + 4 * size a ≡ end = omega arith in
         let fin : end + 4 * size r ≡ at + 4 * (2 + size a + size r) = omega arith in
-        let rest : (d : ℕ) (m : Run) → Keeps kept first m → MeetsEach kept C r end K I G m → From kept bus first d m end (Ends (at + 4 * (2 + size a + size r)) K I G) =
+        let rest : (d : ℕ) (m : Run) → Keeps kept first m → MeetsEach kept C r end K I G m → From kept bus first d m end (EndsAt (at + 4 * (2 + size a + size r)) K I G) =
         λ d m km k. ends_at _ _ K I G _ d m fin (run_tree r end K I G d m m.regs None refl refl f1.1 w1.1 sq.1 km (stands_at kept first (at + 8) end a (code r end) to body) k) in
         at_rest kept bus first s raw p at c _ e (none_pending p (When t a r) clr refl)
         (⊎_elim
-        (λ y. reach_after kept bus first 2 c s (passing s) _ (board (passing s) (at + 8) (c + 2)) _ (passed_by kept bus first c t s at end ks st.0 st.1.0 f0.0 y) (omega arith)
+        (λ y. reach_after kept bus first 2 c s (passing s) _ (executing (passing s) (at + 8) (c + 2)) _ (passed_by kept bus first c t s at end ks st.0 st.1.0 f0.0 y) (omega arith)
         (go_on (at + 8 + 4 * size a) end _ I G _ _ (c + 2) (passing s) to rest (λ m b g. inr g) (run_tree a (at + 8) _ I G (c + 2) (passing s) s.regs None refl refl f1.0 w1.0 sq.0 (passing_keeps s ks) (stands_front kept first (at + 8) (code a (at + 8)) (code r end) body) (h.0 y))))
-        (λ n. reach_after kept bus first 2 c s (passing s) _ (board (passing s) end (c + 2)) _ (taken kept bus first c (opposite t) s at end ks st.0 st.1.0 (opposite_fits t f0.0) w0.0 (even_8 at (size a) st.0.aligned) n) (omega arith)
+        (λ n. reach_after kept bus first 2 c s (passing s) _ (executing (passing s) end (c + 2)) _ (taken kept bus first c (opposite t) s at end ks st.0 st.1.0 (opposite_fits t f0.0) w0.0 (even_8 at (size a) st.0.aligned) n) (omega arith)
         (rest (c + 2) (passing s) (passing_keeps s ks) (h.1 n)))
         (decided t s.regs))
     run_tree (Choose t a b r) at K I G c s raw p e clr f w sp ks st h =
@@ -139,16 +139,16 @@ module _ (kept : ℕ → Bool) (bus : ℕ → Bus) (few : (n : ℕ) → (bus n).
         let body_b = subst (λ n. StandsAs kept first n (code b other ++ code r end)) eb jump.1.1 in
         let to : other + 4 * size b ≡ end = omega arith in
         let fin : end + 4 * size r ≡ at + 4 * (4 + size a + size b + size r) = omega arith in
-        let rest : (d : ℕ) (m : Run) → Keeps kept first m → MeetsEach kept C r end K I G m → From kept bus first d m end (Ends (at + 4 * (4 + size a + size b + size r)) K I G) =
+        let rest : (d : ℕ) (m : Run) → Keeps kept first m → MeetsEach kept C r end K I G m → From kept bus first d m end (EndsAt (at + 4 * (4 + size a + size b + size r)) K I G) =
         λ d m km k. ends_at _ _ K I G _ d m fin (run_tree r end K I G d m m.regs None refl refl f2.1 w2.1 s1.1 km (stands_at kept first other end b (code r end) to body_b) k) in
         at_rest kept bus first s raw p at c _ e (none_pending p (Choose t a b r) clr refl)
         (⊎_elim
-        (λ y. reach_after kept bus first 2 c s (passing s) _ (board (passing s) (at + 8) (c + 2)) _ (passed_by kept bus first c t s at other ks st.0 st.1.0 f0.0 y) (omega arith)
+        (λ y. reach_after kept bus first 2 c s (passing s) _ (executing (passing s) (at + 8) (c + 2)) _ (passed_by kept bus first c t s at other ks st.0 st.1.0 f0.0 y) (omega arith)
         (go_on (at + 8 + 4 * size a) over _ I G _ _ (c + 2) (passing s) to_over
-        (λ d m km k. reach_after kept bus first 2 d m (branching m) _ (board (branching m) end (d + 2)) _ (taken kept bus first d always m over end km jump.0 jump.1.0 refl near.1 (even_two at (size a) (size b) st.0.aligned) refl) (omega arith)
+        (λ d m km k. reach_after kept bus first 2 d m (branching m) _ (executing (branching m) end (d + 2)) _ (taken kept bus first d always m over end km jump.0 jump.1.0 refl near.1 (even_two at (size a) (size b) st.0.aligned) refl) (omega arith)
         (rest (d + 2) (branching m) (branching_keeps m km) k)) (λ m b g. inr g)
         (run_tree a (at + 8) _ I G (c + 2) (passing s) s.regs None refl refl f1.0 w1.0 s0.0 (passing_keeps s ks) (stands_front kept first (at + 8) (code a (at + 8)) tail body) (h.0 y))))
-        (λ n. reach_after kept bus first 2 c s (passing s) _ (board (passing s) other (c + 2)) _ (taken kept bus first c (opposite t) s at other ks st.0 st.1.0 (opposite_fits t f0.0) near.0 (even_16 at (size a) st.0.aligned) n) (omega arith)
+        (λ n. reach_after kept bus first 2 c s (passing s) _ (executing (passing s) other (c + 2)) _ (taken kept bus first c (opposite t) s at other ks st.0 st.1.0 (opposite_fits t f0.0) near.0 (even_16 at (size a) st.0.aligned) n) (omega arith)
         (go_on (other + 4 * size b) end _ I G _ _ (c + 2) (passing s) to rest (λ m b g. inr g) (run_tree b other _ I G (c + 2) (passing s) s.regs None refl refl f2.0 w2.0 s1.0 (passing_keeps s ks) (stands_front kept first other (code b other) (code r end) body_b) (h.1 n))))
         (decided t s.regs))
     run_tree (Loop t a r) at K I G c s raw p e clr f w sp ks st h =
@@ -182,20 +182,20 @@ module _ (kept : ℕ → Bool) (bus : ℕ → Bus) (few : (n : ℕ) → (bus n).
         let into : Run = linking s (at + 8) in
         let link : ((at + 4) % 2 ^ 32 + 4) % 2 ^ 32 ≡ at + 8 = ap (λ x. (x + 4) % 2 ^ 32) (no_wrap at st.0.mapped) ∙ no_wrap (at + 4) st.1.0.mapped ∙ e8 in
         at_rest kept bus first s raw p at c _ e (none_pending p (Visit a r) clr refl)
-        (reach_after kept bus first 2 c s into _ (board into a (c + 2)) _
+        (reach_after kept bus first 2 c s into _ (executing into a (c + 2)) _
         (two kept bus first c (JAL (target_of a)) s into at a ks (linking_keeps s (at + 8) ks) st.0 st.1.0 (target_fits a) refl refl
         (ap (λ x. in_slot (linking s x) ((at + 4) % 2 ^ 32) ((at + 4) % 2 ^ 32 / 2 ^ 28 * 2 ^ 28 + a / 4 % 2 ^ 26 * 4)) link ∙ ap (in_slot into ((at + 4) % 2 ^ 32)) (jumps_to at a w0.0)) refl) (omega arith)
         (reach_then kept bus first _ (c + 2) into _ _ (known a _ _ _ into (linking_keeps s (at + 8) ks) h) (λ d m b km z.
-        subst (λ n. From kept bus first d m n (Ends (at + 4 * (2 + size r)) K I G)) (sym z.0) (ends_at _ _ K I G _ d m fin (run_tree r (at + 8) K I G d m m.regs None refl refl f w0.1 sp km (subst (λ n. StandsAs kept first n (code r (at + 8))) e8 st.1.1) z.1)))))
+        subst (λ n. From kept bus first d m n (EndsAt (at + 4 * (2 + size r)) K I G)) (sym z.0) (ends_at _ _ K I G _ d m fin (run_tree r (at + 8) K I G d m m.regs None refl refl f w0.1 sp km (subst (λ n. StandsAs kept first n (code r (at + 8))) e8 st.1.1) z.1)))))
     run_tree (Go a r) at K I G c s raw p e clr f w sp ks st h =
         let w0 = both (in_region at a) (reaches r (at + 8)) w in
         at_rest kept bus first s raw p at c _ e (none_pending p (Go a r) clr refl)
-        (reach_after kept bus first 2 c s (passing s) _ (board (passing s) a (c + 2)) _
+        (reach_after kept bus first 2 c s (passing s) _ (executing (passing s) a (c + 2)) _
         (two kept bus first c (J (target_of a)) s (passing s) at a ks (passing_keeps s ks) st.0 st.1.0 (target_fits a) refl refl (ap (in_slot s ((at + 4) % 2 ^ 32)) (jumps_to at a w0.0)) refl) (omega arith)
         (reach_here kept bus first _ _ _ _ (passing_keeps s ks) (inr (inl h))))
     run_tree (GoTo n r) at K I G c s raw p e clr f w sp ks st h =
         let f0 = both (is_register n) (fits r) f in
         at_rest kept bus first s raw p at c _ e (none_pending p (GoTo n r) clr refl)
-        (reach_after kept bus first 2 c s (passing s) _ (board (passing s) (register s.regs n.0) (c + 2)) _
+        (reach_after kept bus first 2 c s (passing s) _ (executing (passing s) (register s.regs n.0) (c + 2)) _
         (two kept bus first c (JR n) s (passing s) at (register s.regs n.0) ks (passing_keeps s ks) st.0 st.1.0 (register_fits n f0.0) refl refl refl refl) (omega arith)
         (reach_here kept bus first _ _ _ _ (passing_keeps s ks) (inr (inr h))))

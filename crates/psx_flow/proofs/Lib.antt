@@ -20,7 +20,7 @@ pub mod Sound
 pub mod Kit
 pub mod Users
 pub mod Accesses
-pub mod Serves
+pub mod TestedServes
 pub mod Settling
 pub mod Counts
 pub mod Following

@@ -1,4 +1,4 @@
--- Some words of a listing, run: a board goes from one place to another.
+-- Some words of a listing, run: an execution goes from one place to another.
 use Rattle.std.proofs.Common.{◌≡◌, ℕ, zero, suc, ◌+◌, ◌*◌, ◌%◌, ◌^◌, ◌<◌, List, [], ◌∷◌, ◌++◌, length, length-append, Bool, true, false, Option, Some, None, refl, sym, ap, ◌∙◌, subst, arith}
 use Rattle.std.specs.Prelude.{◌||◌, not}
 use Rattle.std.proofs.lemmas.Bool.{false≢true}
@@ -21,7 +21,7 @@ use Rattle.psx_flow.specs.Spaced.{registers_of, is_among, touches}
 use Rattle.psx_flow.specs.Lowered.{opposite, nop, always, branch, distance, code, in_reach}
 use Rattle.psx_flow.specs.Run.{Run, Access, accessed, state_at, done}
 use Rattle.psx_flow.specs.Meets.{Holds}
-use Rattle.psx_flow.specs.Plain.{Board, plain_step, on, steps, board}
+use Rattle.psx_flow.specs.Plain.{Execution, plain_step, on, steps, executing}
 use Rattle.psx_flow.specs.Reaches.{Keeps}
 use Rattle.psx_flow.proofs.Delay.{delayed, delayed_trap, delayed_access, neither}
 use Rattle.psx_flow.proofs.Step.{LiesAs, StandsAs, both, fetched, standing, step_is}
@@ -96,11 +96,11 @@ module _ (i : Ins) (s : Run) (bus : Bus) (at : ℕ) (T : Tree) (gate : enters_or
       delayed_access raw l.0 l.1 at ((at + 4) % 2 ^ 32) false s.cop0 s.bytes bus i q (untouched l.0 h).0 ∙ ap (λ c. accessed i (pending_at s c None at) bus q) e
 
 module _ (kept : ℕ → Bool) (bus : ℕ → Bus) (first : Memory) where
-  on_more : (n m : ℕ) (d : Board) (x : Option Board) → ((c : Board) → steps bus n c ≡ Some d → steps bus (n + m) c ≡ steps bus m d) → on x (steps bus n) ≡ Some d → on x (steps bus (n + m)) ≡ steps bus m d
+  on_more : (n m : ℕ) (d : Execution) (x : Option Execution) → ((c : Execution) → steps bus n c ≡ Some d → steps bus (n + m) c ≡ steps bus m d) → on x (steps bus n) ≡ Some d → on x (steps bus (n + m)) ≡ steps bus m d
   on_more n m d None f h = absurd cc
   on_more n m d (Some c) f h = f c h
 
-  steps_more : (n m : ℕ) (c d : Board) → steps bus n c ≡ Some d → steps bus (n + m) c ≡ steps bus m d
+  steps_more : (n m : ℕ) (c d : Execution) → steps bus n c ≡ Some d → steps bus (n + m) c ≡ steps bus m d
   steps_more zero m c d h =
       let e : 0 + m ≡ m = omega arith in let f : c ≡ d = cc in
       ap (λ k. steps bus k c) e ∙ ap (steps bus m) f
@@ -108,30 +108,30 @@ module _ (kept : ℕ → Bool) (bus : ℕ → Bus) (first : Memory) where
       let e : suc n + m ≡ suc (n + m) = omega arith in
       ap (λ k. steps bus k c) e ∙ on_more n m d (plain_step bus c) (λ c' h'. steps_more n m c' d h') h
 
-  -- some words take one board to another
-  abbrev pub Moves : ℕ → Board → Board → Type 0
+  -- some words take one execution to another
+  abbrev pub Moves : ℕ → Execution → Execution → Type 0
   Moves k x y = steps bus k x ≡ Some y
 
-  pub moves_on : (k n : ℕ) (x y z : Board) → Moves k x y → Moves n y z → Moves (k + n) x z
+  pub moves_on : (k n : ℕ) (x y z : Execution) → Moves k x y → Moves n y z → Moves (k + n) x z
   moves_on k n x y z h g = steps_more k n x y h ∙ g
 
-  -- From a board of count c, in a state s of a run, the steps come to a state and an address for which Z holds, in exactly the steps that the run makes from there on.
-  pub record Leads (start : Board) (c : ℕ) (s : Run) (Z : Run → ℕ → Type 0) : Type 0 where
+  -- From an execution of count c, in a state s of a run, the steps come to a state and an address for which Z holds, in exactly the steps that the run makes from there on.
+  pub record Leads (start : Execution) (c : ℕ) (s : Run) (Z : Run → ℕ → Type 0) : Type 0 where
     pub count : ℕ
     pub after : Run
     pub to : ℕ
-    pub run : steps bus count start ≡ Some (board after to (c + count))
+    pub run : steps bus count start ≡ Some (executing after to (c + count))
     pub exact : count + s.steps ≡ after.steps
     pub keeps : Keeps kept first after
     pub holds : Z after to
 
   abbrev pub From : ℕ → Run → ℕ → (Run → ℕ → Type 0) → Type 0
-  From c s pc Z = Leads (board s pc c) c s Z
+  From c s pc Z = Leads (executing s pc c) c s Z
 
   pub reach_here : (c : ℕ) (s : Run) (pc : ℕ) (Z : Run → ℕ → Type 0) → Keeps kept first s → Z s pc → From c s pc Z
-  reach_here c s pc Z k z = let e : c ≡ c + 0 = omega arith in record { count = 0; after = s; to = pc; run = ap (λ t. Some (board s pc t)) e; exact = omega arith; keeps = k; holds = z }
+  reach_here c s pc Z k z = let e : c ≡ c + 0 = omega arith in record { count = 0; after = s; to = pc; run = ap (λ t. Some (executing s pc t)) e; exact = omega arith; keeps = k; holds = z }
 
-  pub reach_then : (x : Board) (c : ℕ) (s : Run) (Y Z : Run → ℕ → Type 0) → Leads x c s Y → ((d : ℕ) (e : Run) (b : ℕ) → Keeps kept first e → Y e b → From d e b Z) → Leads x c s Z
+  pub reach_then : (x : Execution) (c : ℕ) (s : Run) (Y Z : Run → ℕ → Type 0) → Leads x c s Y → ((d : ℕ) (e : Run) (b : ℕ) → Keeps kept first e → Y e b → From d e b Z) → Leads x c s Z
   reach_then x c s Y Z r f =
       let q = f (c + r.count) r.after r.to r.keeps r.holds in
       let t : c + r.count + q.count ≡ c + (r.count + q.count) = omega arith in
@@ -139,27 +139,27 @@ module _ (kept : ℕ → Bool) (bus : ℕ → Bus) (first : Memory) where
         count = r.count + q.count;
         after = q.after;
         to = q.to;
-        run = moves_on r.count q.count x (board r.after r.to (c + r.count)) _ r.run q.run ∙ ap (λ t. Some (board q.after q.to t)) t;
+        run = moves_on r.count q.count x (executing r.after r.to (c + r.count)) _ r.run q.run ∙ ap (λ t. Some (executing q.after q.to t)) t;
         exact = omega (arith, r.exact, q.exact);
         keeps = q.keeps;
         holds = q.holds;
       }
 
   -- some words, by which the run comes from s to e
-  pub reach_after : (k c : ℕ) (s e : Run) (x y : Board) (Z : Run → ℕ → Type 0) → Moves k x y → k + s.steps ≡ e.steps → Leads y (c + k) e Z → Leads x c s Z
+  pub reach_after : (k c : ℕ) (s e : Run) (x y : Execution) (Z : Run → ℕ → Type 0) → Moves k x y → k + s.steps ≡ e.steps → Leads y (c + k) e Z → Leads x c s Z
   reach_after k c s e x y Z run few q =
       let t : c + k + q.count ≡ c + (k + q.count) = omega arith in
       record {
         count = k + q.count;
         after = q.after;
         to = q.to;
-        run = moves_on k q.count x y _ run q.run ∙ ap (λ t. Some (board q.after q.to t)) t;
+        run = moves_on k q.count x y _ run q.run ∙ ap (λ t. Some (executing q.after q.to t)) t;
         exact = omega (arith, few, q.exact);
         keeps = q.keeps;
         holds = q.holds;
       }
 
-  -- nothing is pending: the run's own board
+  -- nothing is pending: the run's own execution
   pub at_rest : (s : Run) (raw : Registers) (p : Option (ℕ × ℕ)) (at c : ℕ) (Z : Run → ℕ → Type 0) → settled raw p ≡ s.regs → p ≡ None → From c s at Z
       → Leads (standing (pending_at s raw p at) s.seen c) c s Z
   at_rest s raw p at c Z e n r =
@@ -188,7 +188,7 @@ module _ (kept : ℕ → Bool) (bus : ℕ → Bus) (first : Memory) where
 
   -- a branch or a jump with its slot
   pub two : (c : ℕ) (i : Ins) (s e : Run) (at to : ℕ) → Keeps kept first s → Keeps kept first e → LiesAs kept first at i → LiesAs kept first (at + 4) nop → fits_fields i ≡ true → enters_or_leaves i ≡ false → trap_of i (state_at s at).context ≡ None
-      → effect i (state_at s at) (bus c) ≡ in_slot e ((at + 4) % 2 ^ 32) to → accessed i (state_at s at) (bus c) s.seen ≡ e.seen → Moves 2 (board s at c) (board e to (c + 2))
+      → effect i (state_at s at) (bus c) ≡ in_slot e ((at + 4) % 2 ^ 32) to → accessed i (state_at s at) (bus c) s.seen ≡ e.seen → Moves 2 (executing s at c) (executing e to (c + 2))
   two c i s e at to ks ke l n fit gate none goes same =
       let f : suc (suc c) ≡ c + 2 = omega arith in
       let wrap = no_wrap at l.mapped in
@@ -197,13 +197,13 @@ module _ (kept : ℕ → Bool) (bus : ℕ → Bus) (first : Memory) where
       ∙ ap (λ x. Some (standing x (accessed i (state_at s at) (bus c) s.seen) (suc c))) goes
       ∙ ap (λ q. Some (standing (in_slot e ((at + 4) % 2 ^ 32) to) q (suc c))) same)
       ∙ ap (λ o. on o (steps bus 0)) (step_is bus (in_slot e ((at + 4) % 2 ^ 32) to) e.seen (suc c) nop even ke.masked (ap (λ a. instruction_of (read_word e.bytes a)) wrap ∙ fetched kept first e (at + 4) nop ke n refl) refl refl)
-      ∙ ap (λ t. Some (board e to t)) f
+      ∙ ap (λ t. Some (executing e to t)) f
 
   word_field : (x : ℕ) → x % 2 ^ 16 < 2 ^ 16
   word_field x = omega arith
 
   pub taken : (c : ℕ) (t : Test) (s : Run) (at to : ℕ) → Keeps kept first s → LiesAs kept first at (branch t at to) → LiesAs kept first (at + 4) nop → test_fits t ≡ true → in_reach at to ≡ true → to % 4 ≡ 0 → Holds t s.regs
-      → Moves 2 (board s at c) (board s to (c + 2))
+      → Moves 2 (executing s at c) (executing s to (c + 2))
   taken c t s at to k l n fit near even y =
       let wrap = no_wrap at l.mapped in
       let dest = ap (λ a. (a + sign_extended (distance at to) * 4) % 2 ^ 32) wrap ∙ goes_to at to (mapped_below at l.mapped) l.aligned even near in
@@ -211,7 +211,7 @@ module _ (kept : ℕ → Bool) (bus : ℕ → Bus) (first : Memory) where
       (branch_after t (distance at to) s at (bus c) true (passes t s.regs y) ∙ ap (in_slot s ((at + 4) % 2 ^ 32)) dest) (branch_seen t (distance at to) (state_at s at) (bus c) s.seen)
 
   pub passed_by : (c : ℕ) (t : Test) (s : Run) (at to : ℕ) → Keeps kept first s → LiesAs kept first at (branch (opposite t) at to) → LiesAs kept first (at + 4) nop → test_fits t ≡ true → Holds t s.regs
-      → Moves 2 (board s at c) (board s (at + 8) (c + 2))
+      → Moves 2 (executing s at c) (executing s (at + 8) (c + 2))
   passed_by c t s at to k l n fit y =
       let wrap = no_wrap at l.mapped in
       let wrap' = no_wrap (at + 4) n.mapped in

@@ -1,28 +1,25 @@
 -- One instruction of a listing, by the word that stands at pc: the plain step of the processor.
-use Rattle.std.proofs.Common.{◌≡◌, ℕ, suc, ◌+◌, ◌*◌, ◌/◌, ◌%◌, ◌^◌, List, [], ◌∷◌, map, Bool, true, false, Option, Some, None, refl, ap, ◌∙◌, arith, eq-eqb, ne_eqb}
-use Rattle.std.specs.Prelude.{nat_eq, ◌&&◌, if◌then◌else◌}
+use Rattle.std.proofs.Common.{◌≡◌, ℕ, suc, ◌+◌, ◌*◌, ◌%◌, ◌^◌, List, [], ◌∷◌, map, Bool, true, false, Some, None, refl, ap, ◌∙◌}
+use Rattle.std.specs.Prelude.{◌&&◌, if◌then◌else◌}
 use Rattle.std.proofs.lemmas.Bool.{true≢false, false≢true}
 use Rattle.psx_ins.specs.declared.ins.Ins.{Ins}
 use Rattle.psx_ins.specs.declared.ins.Ins.TheVariants.{LW, SW, RFE}
 use Rattle.psx_ins.specs.Words.{word as word_of, fits_fields}
 use Rattle.psx_ins.specs.Decoding.{instruction_of}
 use Rattle.psx_ins.proofs.Decodes.{decodes}
-use Rattle.psx_base.specs.declared.stop.Stop.TheVariants.{Protected, SlotBranch}
 use Rattle.psx_base.specs.Memory.{Memory, word, is_mapped}
 use Rattle.psx_base.specs.Addresses.{place}
 use Rattle.psx_base.specs.PortAddresses.{port}
 use Rattle.psx_base.specs.Registers.{register}
-use Rattle.psx_base.specs.Context.{Context}
-use Rattle.psx_cpu.specs.Processor.{Core, State, Bus, Trap, Processor}
+use Rattle.psx_cpu.specs.Processor.{Core, State, Bus}
 use Rattle.psx_cpu.specs.DataAccess.{data_address, read_word}
 use Rattle.psx_cpu.specs.Effect.{effect}
-use Rattle.psx_cpu.specs.Traps.{DataUse, data_use, is_aligned, misaligned, use_trap, own_trap, or_else, trap_of}
-use Rattle.psx_cpu.specs.Exceptions.{takes_interrupt}
-use Rattle.psx_cpu.specs.Guard.{guard_data, guard_instruction, guard_word, guard, is_branch, is_protected}
-use Rattle.psx_cpu.specs.Step.{Move, Goes, Reads, Writes, Stops, entered, after, executed, performed, passed, step}
+use Rattle.psx_cpu.specs.Traps.{trap_of}
+use Rattle.psx_cpu.specs.Step.{Move, Goes, Reads, Writes, after, executed, step}
+use Rattle.psx_cpu.proofs.KernelSide.{step_executes}
 use Rattle.psx_flow.specs.Well.{enters_or_leaves}
 use Rattle.psx_flow.specs.Run.{Run, Access, accessed}
-use Rattle.psx_flow.specs.Plain.{Board, went, seen_by, onward, plain_step, kernel_core}
+use Rattle.psx_flow.specs.Plain.{Execution, went, seen_by, onward, plain_step, kernel_core}
 use Rattle.psx_flow.specs.Reaches.{keeps_word, Lies, Stands, Keeps}
 
 -- ---- the word at an address
@@ -60,45 +57,7 @@ pub fetched : (kept : ℕ → Bool) (first : Memory) (s : Run) (at : ℕ) (i : I
 fetched kept first s at i k l fit =
     ap instruction_of (mapped_word s.bytes at l.mapped ∙ same_word kept first s (place at) k l.spared ∙ l.is) ∙ decodes i fit
 
--- ---- nothing is in the instruction's place
-
-no_trap : (a b : Option Trap) → or_else a b ≡ None → (a ≡ None) × (b ≡ None)
-no_trap None b h = (refl, h)
-no_trap (Some t) b h = absurd cc
-
-not_user : (a b : Bool) → (a && (b && false)) ≡ false
-not_user true true = refl
-not_user true false = refl
-not_user false b = refl
-
-not_protected : (a : Bool) → (a && false) ≡ false
-not_protected true = refl
-not_protected false = refl
-
-module _ (k : Core) (bus : Bus) where
-  data_passes : (c : Context) (i : Ins) (u : Option DataUse) → use_trap u ≡ None → guard_data Stops (entered k) (passed k bus) c true i u ≡ passed k bus i
-  data_passes c i None h = refl
-  data_passes c i (Some u) h = go (is_aligned u.at u.multiple) h
-    where
-      go : (b : Bool) → (if b then None else Some (misaligned u)) ≡ None → (if b then passed k bus i else entered k (misaligned u)) ≡ passed k bus i
-      go true h = refl
-      go false h = absurd cc
-
-  instruction_passes : (c : Context) (i : Ins) → use_trap (data_use i c) ≡ None → guard_instruction Stops (entered k) (passed k bus) c true i ≡ passed k bus i
-  instruction_passes c i h =
-      ap (λ b. if b then Stops (SlotBranch c.pc) else (if is_protected i && false then Stops (Protected c.pc) else guard_data Stops (entered k) (passed k bus) c true i (data_use i c))) (not_user (is_branch i) c.in_slot)
-      ∙ ap (λ b. if b then Stops (Protected c.pc) else guard_data Stops (entered k) (passed k bus) c true i (data_use i c)) (not_protected (is_protected i))
-      ∙ data_passes c i (data_use i c) h
-
-  word_passes : (c : Context) (w : ℕ) (i : Ins) → c.pc % 4 ≡ 0 → instruction_of w ≡ Some i → use_trap (data_use i c) ≡ None → guard Stops (entered k) (passed k bus) c true w ≡ passed k bus i
-  word_passes c w i even is h =
-      ap (λ b. if b then guard_word Stops (entered k) (passed k bus) c true w (instruction_of w) else entered k (record { code = 4; bad = Some c.pc })) (eq-eqb (c.pc % 4) 0 even)
-      ∙ ap (guard_word Stops (entered k) (passed k bus) c true w) is
-      ∙ instruction_passes c i h
-
-no_interrupt : (p : Processor) (line : Bool) → p.cop0.sr % 2 ≡ 0 → takes_interrupt p line ≡ false
-no_interrupt p false h = refl
-no_interrupt p true h = ap (λ b. if b then nat_eq (p.cop0.sr / 2 ^ 10 % 2) 1 else false) (ne_eqb (p.cop0.sr % 2) 1 (λ e. omega (arith, e)))
+-- ---- a step
 
 gone : (b : Bool) (x y : Move) (next : Core) → went x ≡ Some next → went y ≡ Some next → went (if b then x else y) ≡ Some next
 gone true x y next h g = h
@@ -113,18 +72,10 @@ executes k bus _ g = refl
 -- a state on the kernel's side steps by the effect of the instruction at pc
 pub core_steps : (x : State) (bus : Bus) (i : Ins) → x.context.pc % 4 ≡ 0 → x.cop0.sr % 2 ≡ 0 → instruction_of (read_word x.bytes x.context.pc) ≡ Some i → enters_or_leaves i ≡ false → trap_of i x.context ≡ None
     → went (step (kernel_core x) bus) ≡ Some (kernel_core (effect i x bus))
-unfolding step
-core_steps x bus i even off is g none =
-    let k = kernel_core x in
-    let w = read_word x.bytes x.context.pc in
-    let n = no_trap (use_trap (data_use i x.context)) (own_trap i x.context) none in
-    ap (λ b. went (if b then entered k (record { code = 0; bad = None }) else guard Stops (entered k) (passed k bus) x.context true w)) (no_interrupt k.processor bus.line off)
-    ∙ ap went (word_passes k bus x.context w i even is n.0)
-    ∙ ap (λ t. went (performed k bus i t)) n.1
-    ∙ executes k bus i g
+core_steps x bus i even off is g none = ap went (step_executes x.context x.cop0 x.bytes bus i even off is none) ∙ executes (kernel_core x) bus i g
 
--- a board in a state, with the accesses so far, at a count
-abbrev pub standing : State → List Access → ℕ → Board
+-- an execution in a state, with the accesses so far, at a count
+abbrev pub standing : State → List Access → ℕ → Execution
 standing x q c = record { core = kernel_core x; seen = q; clock = c }
 
 pub step_is : (bus : ℕ → Bus) (x : State) (q : List Access) (c : ℕ) (i : Ins) → x.context.pc % 4 ≡ 0 → x.cop0.sr % 2 ≡ 0 → instruction_of (read_word x.bytes x.context.pc) ≡ Some i → enters_or_leaves i ≡ false → trap_of i x.context ≡ None

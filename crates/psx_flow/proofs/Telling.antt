@@ -25,9 +25,9 @@ unfolding load_word
 answered m a v e = ap (λ b. if b then v else read_word m a) e
 
 module _ (k : Core) (bus : Bus) (q : List Access) where
-  -- of an instruction, or of none, what a move tells is what it accesses
-  abbrev Tells : Option Ins → Move → Type 0
-  Tells o move = (next : Core) → went move ≡ Some next → ports (seen_by o (state_of k.processor k.bytes) bus q) ≡ told move (ports q)
+  -- of an instruction, or of none, what a move step_told is what it accesses
+  abbrev ToldBy : Option Ins → Move → Type 0
+  ToldBy o move = (next : Core) → went move ≡ Some next → ports (seen_by o (state_of k.processor k.bytes) bus q) ≡ told move (ports q)
 
   loads : (a : ℕ) (next : Core) (b : Bool) → port (place a) ≡ b → (to : Core) → went (if b then Reads next (place a) bus.value else Goes next) ≡ Some to
       → ports (word_load a (load_word k.bytes a bus.value) ∷ q) ≡ told (if b then Reads next (place a) bus.value else Goes next) (ports q)
@@ -41,31 +41,31 @@ module _ (k : Core) (bus : Bus) (q : List Access) where
   stores a v next true e to h = ap (λ b. ports ((if b then PortWrite (place a) v else Store 4 (place a) v) ∷ q)) e
   stores a v next false e to h = ap (λ b. ports ((if b then PortWrite (place a) v else Store 4 (place a) v) ∷ q)) e
 
-  does : (i : Ins) → Tells (Some i) (executed k bus i)
+  does : (i : Ins) → ToldBy (Some i) (executed k bus i)
   does (LW s t imm) next h = loads (data_address k.processor.context s imm) (after k bus (LW s t imm)) (port (place (data_address k.processor.context s imm))) refl next h
   does (SW s t imm) next h = stores (data_address k.processor.context s imm) (register k.processor.context.regs t.0) (after k bus (SW s t imm)) (port (place (data_address k.processor.context s imm))) refl next h
   does RFE next h = absurd cc
   does _ next h = refl
 
-  performs : (i : Ins) (t : Option Trap) → Tells (Some i) (performed k bus i t)
+  performs : (i : Ins) (t : Option Trap) → ToldBy (Some i) (performed k bus i t)
   performs i None = does i
   performs i (Some t) = λ next h. absurd cc
 
-  by_word : (w : ℕ) (o : Option Ins) → Tells o (guard_word Stops (entered k) (passed k bus) k.processor.context k.processor.latch w o)
+  by_word : (w : ℕ) (o : Option Ins) → ToldBy o (guard_word Stops (entered k) (passed k bus) k.processor.context k.processor.latch w o)
   by_word w None = λ next h. absurd cc
   by_word w (Some i) =
-      guard_instruction-all (Tells (Some i)) k bus (λ s next h. absurd cc) (λ t next h. absurd cc) k.processor.context k.processor.latch i (performs i (own_trap i k.processor.context))
+      guard_instruction-all (ToldBy (Some i)) k bus (λ s next h. absurd cc) (λ t next h. absurd cc) k.processor.context k.processor.latch i (performs i (own_trap i k.processor.context))
 
-  pub tells : Tells (instruction_of (read_word k.bytes k.processor.context.pc)) (step k bus)
+  pub step_told : ToldBy (instruction_of (read_word k.bytes k.processor.context.pc)) (step k bus)
   unfolding step
-  tells =
+  step_told =
       let c = k.processor.context in
       let w = read_word k.bytes c.pc in
-      let P = Tells (instruction_of w) in
+      let P = ToldBy (instruction_of w) in
       if_all P (takes_interrupt k.processor bus.line) _ _ (λ next h. absurd cc)
       (if_all P (nat_eq (c.pc % 4) 0) _ _
       (if_all P (k.processor.latch || (user c.pc || is_some (gate_of c.pc))) _ _ (by_word w (instruction_of w)) (λ next h. absurd cc))
       (λ next h. absurd cc))
 
 pub ports_told : PortsAreTold
-ports_told k bus next q h = tells k bus q next h
+ports_told k bus next q h = step_told k bus q next h

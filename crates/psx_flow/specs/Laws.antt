@@ -11,7 +11,7 @@ use Rattle.psx_flow.specs.Spaced.{touches}
 use Rattle.psx_flow.specs.Run.{Run, Access, accessed, state_at, spares}
 use Rattle.psx_flow.specs.Meets.{Meets, calls}
 use Rattle.psx_flow.specs.Runs.{Falls, Jumps, JumpsTo, Called, any, Runs, called}
-use Rattle.psx_flow.specs.Plain.{steps, board}
+use Rattle.psx_flow.specs.Plain.{steps, executing}
 use Rattle.psx_flow.specs.Reaches.{IsPlaced, ArePlaced, Reaches}
 
 -- ---- the load delay
@@ -54,14 +54,14 @@ Ends kept ls T at s = Meets kept (calls kept ls) T at (λ _. Unit {0}) (λ _ _. 
 abbrev pub WordsRun : Type 0
 WordsRun =
     (kept : ℕ → Bool) (ls : List (ℕ × Tree)) (T : Tree) (at : ℕ) (s : Run) → IsGiven kept ls T at s → Ends kept ls T at s
-    → (bus : ℕ → Bus) → ((n : ℕ) → (bus n).value < 2 ^ 32) → (c : ℕ) → Reaches kept bus s.bytes (board s at c) c s (λ e to. RunsTo any (called any ls) T at s e to)
+    → (bus : ℕ → Bus) → ((n : ℕ) → (bus n).value < 2 ^ 32) → (c : ℕ) → Reaches kept bus s.bytes (executing s at c) c s (λ e to. RunsTo any (called any ls) T at s e to)
 
 -- the words come from s at `at` to e at `to`, for some answers of the bus, in exactly the steps that the run makes, which are at most four for each node
 pub record IsMade (s : Run) (at : ℕ) (e : Run) (to c : ℕ) : Type 0 where
   pub answers : ℕ → Bus
   pub few : (n : ℕ) → (answers n).value < 2 ^ 32
   pub count : ℕ
-  pub run : steps answers count (board s at c) ≡ Some (board e to (c + count))
+  pub run : steps answers count (executing s at c) ≡ Some (executing e to (c + count))
   pub exact : count + s.steps ≡ e.steps
   pub bound : count + 4 * s.passed ≤ 4 * e.passed
 

@@ -8,7 +8,7 @@ use Rattle.psx_cpu.specs.Step.{Move, Goes, Reads, Writes, step}
 use Rattle.psx_flow.specs.Run.{Access, Run, state_at, accessed}
 
 -- the processor with its memory, the accesses so far, newest first, and the number of steps
-pub record Board : Type 0 where
+pub record Execution : Type 0 where
   pub core : Core
   pub seen : List Access
   pub clock : ℕ
@@ -28,19 +28,19 @@ seen_by (Some i) x bus q = accessed i x bus q
 abbrev pub seen_at : Core → Bus → List Access → List Access
 seen_at k bus q = seen_by (instruction_of (read_word k.bytes k.processor.context.pc)) (state_of k.processor k.bytes) bus q
 
-abbrev pub onward : Board → Bus → Option Core → Option Board
+abbrev pub onward : Execution → Bus → Option Core → Option Execution
 onward x bus None = None
 onward x bus (Some core) = Some (record { core = core; seen = seen_at x.core bus x.seen; clock = suc x.clock })
 
 -- one step with what the bus brings at its count, where it goes on
-abbrev pub plain_step : (ℕ → Bus) → Board → Option Board
+abbrev pub plain_step : (ℕ → Bus) → Execution → Option Execution
 plain_step bus x = onward x (bus x.clock) (went (step x.core (bus x.clock)))
 
-abbrev pub on : Option Board → (Board → Option Board) → Option Board
+abbrev pub on : Option Execution → (Execution → Option Execution) → Option Execution
 on None f = None
 on (Some x) f = f x
 
-abbrev pub steps : (ℕ → Bus) → ℕ → Board → Option Board
+abbrev pub steps : (ℕ → Bus) → ℕ → Execution → Option Execution
 steps bus zero x = Some x
 steps bus (suc n) x = on (plain_step bus x) (steps bus n)
 
@@ -49,5 +49,5 @@ abbrev pub kernel_core : State → Core
 kernel_core x = record { processor = record { context = x.context; cop0 = x.cop0; latch = true }; bytes = x.bytes }
 
 -- a run at an address, with nothing pending, at a count
-abbrev pub board : Run → ℕ → ℕ → Board
-board s at c = record { core = kernel_core (state_at s at); seen = s.seen; clock = c }
+abbrev pub executing : Run → ℕ → ℕ → Execution
+executing s at c = record { core = kernel_core (state_at s at); seen = s.seen; clock = c }

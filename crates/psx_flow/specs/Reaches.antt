@@ -8,7 +8,7 @@ use Rattle.psx_flow.specs.Well.{fits}
 use Rattle.psx_flow.specs.Spaced.{is_spaced}
 use Rattle.psx_flow.specs.Lowered.{lowered, reaches}
 use Rattle.psx_flow.specs.Run.{Run}
-use Rattle.psx_flow.specs.Plain.{Board, steps, board}
+use Rattle.psx_flow.specs.Plain.{Execution, steps, executing}
 
 -- `kept` says which physical addresses hold words of listings
 module _ (kept : ℕ → Bool) where
@@ -44,13 +44,13 @@ module _ (kept : ℕ → Bool) where
     pub bytes : (x : ℕ) → kept x ≡ true → byte s.bytes x ≡ byte first x
     pub masked : s.cop0.sr % 2 ≡ 0
 
-  -- From a board of count c, in a state s of a run, the steps come to a state `after` at an address `to` for which Z holds, with nothing pending,
+  -- From an execution of count c, in a state s of a run, the steps come to a state `after` at an address `to` for which Z holds, with nothing pending,
   -- in exactly the steps that the run makes from there on, which are at most four for each node that it passes. The words are those of the first memory.
-  pub record Reaches (bus : ℕ → Bus) (first : Memory) (start : Board) (c : ℕ) (s : Run) (Z : Run → ℕ → Type 0) : Type 0 where
+  pub record Reaches (bus : ℕ → Bus) (first : Memory) (start : Execution) (c : ℕ) (s : Run) (Z : Run → ℕ → Type 0) : Type 0 where
     pub count : ℕ
     pub after : Run
     pub to : ℕ
-    pub run : steps bus count start ≡ Some (board after to (c + count))
+    pub run : steps bus count start ≡ Some (executing after to (c + count))
     pub exact : count + s.steps ≡ after.steps
     pub bound : count + 4 * s.passed ≤ 4 * after.passed
     pub keeps : Keeps first after

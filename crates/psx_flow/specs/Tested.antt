@@ -47,12 +47,12 @@ value_after ReadWord c m = word m (place c.r8)
 value_after WriteWord c m = c.r9
 
 -- behind the listing where the access is made, and where it isn't: r11 and r12 may be anything
-pub record Made (kind : Tested) (s e : Run) : Type 0 where
+pub record AccessMade (kind : Tested) (s e : Run) : Type 0 where
   pub regs : e.regs ≡ record s.regs { r9 = value_after kind s.regs s.bytes; r10 = 1; r11 = e.regs.r11; r12 = e.regs.r12 }
   pub bytes : e.bytes ≡ memory_after kind s.regs s.bytes
   pub seen : e.seen ≡ access_of kind s.regs s.bytes ∷ s.seen
 
-pub record Refused (s e : Run) : Type 0 where
+pub record AccessRefused (s e : Run) : Type 0 where
   pub regs : e.regs ≡ record s.regs { r10 = 0; r11 = e.regs.r11; r12 = e.regs.r12 }
   pub bytes : e.bytes ≡ s.bytes
   pub seen : e.seen ≡ s.seen
@@ -60,12 +60,12 @@ pub record Refused (s e : Run) : Type 0 where
 -- it comes back to the address in r31, within 28 nodes and 29 steps
 pub record Tries (kind : Tested) (s : Run) (to : ℕ) (e : Run) : Type 0 where
   pub back : to ≡ s.regs.r31
-  pub made : is_good kind s.regs.r8 ≡ true → Made kind s e
-  pub refused : is_good kind s.regs.r8 ≡ false → Refused s e
+  pub made : is_good kind s.regs.r8 ≡ true → AccessMade kind s e
+  pub refused : is_good kind s.regs.r8 ≡ false → AccessRefused s e
   pub cop0 : e.cop0 ≡ s.cop0
   pub within : e.passed ≤ s.passed + 28
   pub steps : e.steps ≤ s.steps + 29
 
 -- from each state, of which r8 is a word, and at any address the listing does this, and no more
-abbrev pub Serves : Tested → Tree → Type 0
-Serves kind T = (at : ℕ) (s : Run) → s.regs.r8 < 2 ^ 32 → Meets kernel_words (calls kernel_words []) T at (λ _. ⊥) (λ to e. Tries kind s to e) s
+abbrev pub ServesTested : Tested → Tree → Type 0
+ServesTested kind T = (at : ℕ) (s : Run) → s.regs.r8 < 2 ^ 32 → Meets kernel_words (calls kernel_words []) T at (λ _. ⊥) (λ to e. Tries kind s to e) s

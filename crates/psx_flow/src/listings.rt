@@ -3,7 +3,7 @@ ghost use Rattle.std.specs.Prelude.{◌≡◌, IsTrue, IfSome};
 ghost use Rattle.psx_flow.specs.Reading.{tree_of};
 ghost use Rattle.psx_flow.specs.Well.{is_well};
 ghost use Rattle.psx_flow.specs.Spaced.{is_spaced};
-ghost use Rattle.psx_flow.specs.Tested.{listing, Serves};
+ghost use Rattle.psx_flow.specs.Tested.{listing, ServesTested};
 
 use crate::kinds::Tested;
 use crate::node::{Node, Test};
@@ -92,7 +92,7 @@ pub fn tested(kind: Tested) -> &'static [Node]
     ensures listing { result.now ≡ listing kind }
     ensures well { IsTrue (is_well result.now) }
     ensures spaced { IsTrue (is_spaced result.now) }
-    ensures serves { IfSome (tree_of result.now) (λ tree. Serves kind tree) }
+    ensures serves { IfSome (tree_of result.now) (λ tree. ServesTested kind tree) }
 {
     match kind {
         Tested::ReadByte => &READ_BYTE,

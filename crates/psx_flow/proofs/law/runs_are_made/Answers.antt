@@ -4,14 +4,14 @@ use Rattle.psx_base.specs.Memory.{Memory}
 use Rattle.psx_flow.specs.Run.{Run, spares}
 use Rattle.psx_flow.specs.Runs.{Falls, Jumps, JumpsTo}
 use Rattle.psx_flow.specs.Laws.{IsMade}
-use Rattle.psx_flow.specs.Plain.{board}
+use Rattle.psx_flow.specs.Plain.{executing}
 use Rattle.psx_flow.specs.Reaches.{Keeps}
 use Rattle.psx_flow.proofs.Counts.{Few, few_to}
 use Rattle.psx_flow.proofs.Following.{Follows}
 use Rattle.psx_flow.proofs.Follow.{follow_listing}
 use Rattle.psx_flow.proofs.law.runs_are_made.Goals as goal
 
-made : (kept : ℕ → Bool) (first : Memory) (s : Run) (at : ℕ) (e : Run) (to c : ℕ) → Few s e → Follows kept first (board s at c) c s.steps e to → IsMade s at e to c
+made : (kept : ℕ → Bool) (first : Memory) (s : Run) (at : ℕ) (e : Run) (to c : ℕ) → Few s e → Follows kept first (executing s at c) c s.steps e to → IsMade s at e to c
 made kept first s at e to c few q = record { answers = q.answers; few = q.few; count = q.count; run = q.run; exact = q.exact; bound = omega (arith, few, q.exact) }
 
 pub returns : goal.returns

@@ -3,7 +3,7 @@ use Rattle.psx_flow.proofs.Kit.{ℕ, [], refl, sym, ◌∙◌, subst, arith, Run
 use Rattle.std.proofs.lemmas.Bool.{false≢true}
 use Rattle.psx_flow.specs.declared.kinds.Tested.{Tested}
 use Rattle.psx_flow.specs.declared.kinds.Tested.TheVariants.{ReadByte, WriteByte, ReadWord, WriteWord}
-use Rattle.psx_flow.specs.Tested.{Tries, Serves}
+use Rattle.psx_flow.specs.Tested.{Tries, ServesTested}
 use Rattle.psx_flow.proofs.TestedTrees.{tree}
 use Rattle.psx_flow.proofs.Rules.{meets_mono}
 use Rattle.psx_flow.proofs.Sound.{anew}
@@ -18,7 +18,7 @@ arrives kind at s h =
     meets_mono kernel_words (calls kernel_words []) (fair kernel_words []) (tree kind) at _ _ _ _ s (λ m x. x)
     (λ to e b. subst (λ n. Tries kind s n e) (sym b.0) (anew (Behind kind s) (Tries kind s s.regs.r31) (λ c z m w q p ok h. h) e b.1)) h
 
-pub serves : (kind : Tested) → Serves kind (tree kind)
+pub serves : (kind : Tested) → ServesTested kind (tree kind)
 serves ReadByte at s small =
     arrives ReadByte at s (reads_byte (calls kernel_words []) (fair kernel_words []) (Behind ReadByte s) at s.regs s.cop0 s.bytes [] s.seen (counted s) small tt record {
       good = λ u x y. record { back = refl; made = λ _. record { regs = refl; bytes = refl; seen = refl }; refused = λ f. absurd (false≢true (sym f ∙ u)); cop0 = refl; within = omega arith; steps = omega arith };

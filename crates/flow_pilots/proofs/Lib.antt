@@ -1,2 +1,0 @@
-pub mod TextLength
-pub mod Entry

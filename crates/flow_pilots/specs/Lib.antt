@@ -1,3 +1,0 @@
-pub mod Accesses
-pub mod Strlen
-pub mod Table
