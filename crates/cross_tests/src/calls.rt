@@ -104,14 +104,14 @@ fn strlen_stops_at_an_address_that_is_not_user_memory(rt: HostRuntime) {
         &rt,
         b"
 start:
-        li      r4, 0x0000FFFF          # two words; the last byte of the kernel's memory
+        li      r4, 0xFFFF              # the last byte of the kernel's memory
         li      r9, 0x1B                # strlen
         li      r10, 0xA0
-        jalr    r31, r10                # at 80010010h, so r31 is 80010018h
+        jalr    r31, r10                # at 8001000Ch, so r31 is 80010014h
         nop
 ",
         b"",
-        b" BadPointer 0000FFFF 80010018\n",
+        b" BadPointer 0000FFFF 80010014\n",
     );
 }
 

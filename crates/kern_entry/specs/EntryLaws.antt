@@ -7,7 +7,7 @@ use Rattle.psx_base.specs.Registers.{Registers}
 use Rattle.psx_base.specs.KernelState.{ThreadContext, KernelState}
 use Rattle.psx_cpu.specs.Processor.{Cop0, Core, Trap}
 use Rattle.psx_cpu.specs.Exceptions.{enter}
-use Rattle.kern_layout.specs.Numbers.{work_area}
+use Rattle.kern_layout.specs.declared.places.TheConstants.{WORK_AREA}
 use Rattle.kern_layout.specs.Fields.{Block}
 use Rattle.kern_layout.specs.Contexts.{saved}
 use Rattle.kern_layout.specs.Stands.{user_sr}
@@ -65,7 +65,7 @@ pub record AtRoutine (at : CallId → ℕ) (first : Memory) (s : KernelState) (s
   pub core : k ≡ kernel_at (called_with (registers_of (settled_state s)) regs) cop0 k.bytes (at id)
   pub off : cop0.sr % 2 ≡ 0
   pub out : s.running.context.in_slot ≡ false
-  pub area : Block (word k.bytes) work_area (saved (settled_state s).running)
+  pub area : Block (word k.bytes) WORK_AREA (saved (settled_state s).running)
   pub spared : Spared first k.bytes
   pub quiet : ports q ≡ []
 
@@ -82,7 +82,7 @@ StaysBegin = (at : CallId → ℕ) (k : Core) (s : KernelState) (trap : Trap) �
 -- the entry's words are in memory, and the work area holds a context with nothing pending
 pub record HoldsContext (m : Memory) (t : ThreadContext) : Type 0 where
   pub words : HoldsEntry m
-  pub area : Block (word m) work_area (saved t)
+  pub area : Block (word m) WORK_AREA (saved t)
   pub settled : t.context.pending ≡ None
 
 abbrev pub most_leave_steps : ℕ

@@ -7,7 +7,7 @@ use Rattle.psx_cpu.specs.Processor.{Core, Bus}
 use Rattle.psx_cpu.specs.Step.{Leaves, step}
 use Rattle.psx_ports.specs.HaltCodes.{halt_stop}
 use Rattle.psx_flow.specs.Run.{Access, PortWrite}
-use Rattle.kern_layout.specs.Ranges.{stack_range}
+use Rattle.kern_layout.specs.declared.ranges.TheConstants.{STACK}
 use Rattle.kern_layout.specs.Stands.{user_sr}
 use Rattle.abs_kernel.specs.Stay.{Stay, Return, Halt, Touch}
 pub use Rattle.kern_stay.specs.Follows.{read_of, written_of, behind, after, is_own_port, is_halt_word, IsRead, IsWritten, IsNext, Follows, given}
@@ -17,7 +17,7 @@ use Rattle.kern_entry.specs.Within.{Aim}
 
 -- outside the kernel's stack, of which the work area is part, memory is as before
 abbrev pub Spared : (before after : Memory) → Type 0
-Spared m n = (a : ℕ) → (a < stack_range.from) ⊎ (stack_range.to ≤ a) → byte n a ≡ byte m a
+Spared m n = (a : ℕ) → (a < STACK.from) ⊎ (STACK.to ≤ a) → byte n a ≡ byte m a
 
 -- the processor is back on the user side, with a state's running context
 pub record IsBack (first : Memory) (state : KernelState) (next : Core) : Type 0 where

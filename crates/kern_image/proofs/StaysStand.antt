@@ -9,7 +9,7 @@ use Rattle.psx_base.specs.KernelState.{ThreadContext, KernelState}
 use Rattle.psx_base.specs.Items.{Entrance, ByA, ByB, ByC, BySyscall, ByInterrupt, ByDone, ByBack, ByTrap}
 use Rattle.psx_cpu.specs.Processor.{Core}
 use Rattle.kern_layout.specs.declared.ranges.Range.{Range}
-use Rattle.kern_layout.specs.Ranges.{stack_range}
+use Rattle.kern_layout.specs.declared.ranges.TheConstants.{STACK}
 use Rattle.kern_layout.specs.Stands.{Side, SameUser, Stands, is_fixed, fixed_ranges}
 use Rattle.kern_layout.specs.Numbers.{threads_at}
 use Rattle.kern_layout.specs.Valid.{Valid}
@@ -30,10 +30,10 @@ below_all (r ∷ rs) high a all h =
 pub fixed_below : (a : ℕ) → is_fixed a ≡ true → a < threads_at
 fixed_below a h = below_all fixed_ranges threads_at a refl h
 
-user_above : (a : ℕ) → (user_main a || scratchpad a) ≡ true → stack_range.to ≤ a
+user_above : (a : ℕ) → (user_main a || scratchpad a) ≡ true → STACK.to ≤ a
 user_above a h = grind arith
 
-pub spared_word : (m n : Memory) → Spared m n → (a : ℕ) → a % 4 ≡ 0 → a < stack_range.from → word n a ≡ word m a
+pub spared_word : (m n : Memory) → Spared m n → (a : ℕ) → a % 4 ≡ 0 → a < STACK.from → word n a ≡ word m a
 unfolding word
 spared_word m n h a even low =
     let e0 = h a (inl low) in let e1 = h (a + 1) (inl (omega arith)) in let e2 = h (a + 2) (inl (omega arith)) in let e3 = h (a + 3) (inl (omega arith)) in

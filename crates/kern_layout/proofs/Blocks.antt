@@ -5,7 +5,7 @@ use Rattle.std.proofs.Math.Nat.{mul-le-mul_left}
 use Rattle.std.proofs.lemmas.List.{length-set, same_lists, get_or_default}
 use Rattle.std.proofs.lemmas.Bool.{and_parts, leb-true, ltb-true, eqb-true, eq-eqb, ne_eqb, cases_eq, cases_lt}
 use Rattle.kern_layout.specs.Fields.{Fields, Block, Rows, Stack}
-use Rattle.kern_layout.specs.Stores.{Same, Kept, put, with_field}
+use Rattle.kern_layout.specs.Stores.{Same, SameOutside, put, with_field}
 
 -- ---- blocks
 
@@ -33,7 +33,7 @@ put_here w at v = ap (λ b. cond b v (w at)) (eq-eqb at at refl)
 pub put_other : (w : ℕ → ℕ) (at v a : ℕ) → (a ≡ at → ⊥) → put w at v a ≡ w a
 put_other w at v a ne = ap (λ b. cond b v (w a)) (ne_eqb a at ne)
 
-pub put_kept : (w : ℕ → ℕ) (at v low high : ℕ) → low ≤ at → at < high → Kept low high w (put w at v)
+pub put_kept : (w : ℕ → ℕ) (at v low high : ℕ) → low ≤ at → at < high → SameOutside low high w (put w at v)
 put_kept w at v low high le lt a al o = put_other w at v a (λ e. ⊎_elim (λ p. omega arith) (λ p. omega arith) o)
 
 -- a store to a field of a block
@@ -59,7 +59,7 @@ apart size first i j ne =
 
 module _ {X : Type 0} (first size : ℕ) (fields : ℕ → X → Fields) (none : X) (aligned : (i : ℕ) → (first + size * i) % 4 ≡ 0) (fit : (i : ℕ) (y : X) → inside 0 size (fields i y) ≡ true) where
   -- one block is written: the table has that element set
-  pub rows_set : (w x : ℕ → ℕ) (xs : List X) (i : ℕ) (y : X) → i < length xs → Kept (first + size * i) (first + size * i + size) w x → Block x (first + size * i) (fields i y) → Rows w first size fields xs none → Rows x first size fields (slice_set xs i y) none
+  pub rows_set : (w x : ℕ → ℕ) (xs : List X) (i : ℕ) (y : X) → i < length xs → SameOutside (first + size * i) (first + size * i + size) w x → Block x (first + size * i) (fields i y) → Rows w first size fields xs none → Rows x first size fields (slice_set xs i y) none
   rows_set w x xs i y lt out new old = λ j h.
       ⊎_elim
       (λ e. subst (λ k. Block x (first + size * k) (fields k (slice_index_or (slice_set xs i y) k none))) (sym e) (subst (λ z. Block x (first + size * i) (fields i z)) (sym (get_or-set_same xs i y none lt)) new))

@@ -5,7 +5,7 @@ use Rattle.kern_layout.specs.Contexts.{saved}
 use Rattle.kern_layout.specs.Tasks.{elements_of, lines_of, under_way_fields, count_fields}
 use Rattle.kern_layout.specs.StoreLaws.{Copied, ContextCopied, TasksCopied, FrameCopied}
 use Rattle.kern_layout.proofs.Blocks.{inside, first_in}
-use Rattle.kern_layout.proofs.Kept.{fit_under_way}
+use Rattle.kern_layout.proofs.ReadingsKept.{fit_under_way}
 
 pub block_copied : (w x : ℕ → ℕ) (at to low high : ℕ) (f : Fields) → inside low high f ≡ true → Copied w x at to low high → Block w at f → Block x to f
 block_copied w x at to low high [] i c h = tt

@@ -6,7 +6,7 @@ use Rattle.std.proofs.lemmas.Bool.{cases_lt}
 use Rattle.psx_base.specs.KernelState.{Heap}
 use Rattle.kern_layout.specs.Fields.{Block}
 use Rattle.kern_layout.specs.HeapTable.{IsEntry, entry_fields, Linked, Spare, HeapAt, cell_at}
-use Rattle.kern_layout.proofs.Kept.{entry_place}
+use Rattle.kern_layout.proofs.ReadingsKept.{entry_place}
 
 abbrev pub Blocks : Type 0
 Blocks = List (ℕ × Bool)

@@ -10,7 +10,7 @@ use Rattle.kern_layout.specs.HeapTable.{IsEntry, entry_fields, Linked, HeapAt, c
 use Rattle.kern_layout.specs.Reads.{Reads}
 use Rattle.kern_layout.specs.Valid.{Valid, BlockFits}
 use Rattle.kern_layout.proofs.Blocks.{block_put, put_here, put_other}
-use Rattle.kern_layout.proofs.Kept.{entry_place}
+use Rattle.kern_layout.proofs.ReadingsKept.{entry_place}
 use Rattle.kern_layout.proofs.Written.{reads_heap}
 use Rattle.kern_layout.proofs.Moved.{reads_line, line_more}
 use Rattle.kern_layout.proofs.Stored.{put_below, put_above}

@@ -13,7 +13,7 @@ use Rattle.kern_layout.specs.Tasks.{elements_of, lines_of, under_way_fields, cou
 use Rattle.kern_layout.specs.Reads.{event_fields, no_event, file_fields, no_frame, no_context, variables, next_word}
 use Rattle.kern_layout.specs.Valid.{Valid, FileFits, NextFits}
 use Rattle.kern_layout.specs.Fits.{IsWord, ContextInWords, ThreadInWords, EventInWords, TaskInWords, FrameInWords, StateInWords, InBytes}
-use Rattle.kern_layout.proofs.Made.{look, stack_word, frame_word, chain_word}
+use Rattle.kern_layout.proofs.ReadingsMade.{look, stack_word, frame_word, chain_word}
 use Rattle.kern_layout.proofs.HeapMade.{heap_word, link, spare_link, no_block}
 use Rattle.kern_layout.proofs.MemoryMade.{word_of, fill, made_memory}
 use Rattle.kern_layout.specs.Start.{opening}

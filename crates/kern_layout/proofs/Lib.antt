@@ -1,11 +1,11 @@
 pub mod RangeLemmas
 pub mod Blocks
-pub mod Kept
+pub mod ReadingsKept
 pub mod Written
 pub mod Moved
 pub mod HeapLinks
 pub mod One
-pub mod Made
+pub mod ReadingsMade
 pub mod HeapMade
 pub mod MemoryMade
 pub mod StartValid

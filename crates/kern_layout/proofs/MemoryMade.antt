@@ -10,8 +10,8 @@ use Rattle.psx_base.specs.KernelState.{Free, KernelState}
 use Rattle.kern_layout.specs.Contexts.{thread_fields}
 use Rattle.kern_layout.specs.Reads.{Reads, event_fields, no_event, file_fields, variables}
 use Rattle.kern_layout.specs.Valid.{Valid}
-use Rattle.kern_layout.proofs.Made as made
-use Rattle.kern_layout.proofs.Made.{chosen, passed, look, looked}
+use Rattle.kern_layout.proofs.ReadingsMade as made
+use Rattle.kern_layout.proofs.ReadingsMade.{chosen, passed, look, looked}
 use Rattle.kern_layout.proofs.HeapMade.{heap_word, heap_made, link, spare_link}
 use Rattle.kern_layout.proofs.Written.{reads_free}
 

@@ -11,7 +11,7 @@ use Rattle.kern_layout.specs.Tasks.{FrameAt}
 use Rattle.kern_layout.specs.Reads.{Reads, thread, no_frame, frame_at, thread_at, ChainAt, LineAt, variables, next_word}
 use Rattle.kern_layout.specs.Valid.{Valid}
 use Rattle.kern_layout.proofs.Blocks.{block_same, stack_same}
-use Rattle.kern_layout.proofs.Kept as kept
+use Rattle.kern_layout.proofs.ReadingsKept as kept
 
 -- ---- lists with one element more
 

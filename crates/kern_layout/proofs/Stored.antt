@@ -9,7 +9,7 @@ use Rattle.kern_layout.specs.Tasks.{elements_of, lines_of, under_way_fields, Tas
 use Rattle.kern_layout.specs.Reads.{Reads, thread, event, frame, chain, event_fields, file_fields, no_frame, thread_at, event_at, frame_at, file_at, chain_at, ChainAt, variables}
 use Rattle.kern_layout.specs.Valid.{Valid}
 use Rattle.kern_layout.proofs.Blocks.{block_put, put_kept, put_here, put_other, stack_same, block_same}
-use Rattle.kern_layout.proofs.Kept as kept
+use Rattle.kern_layout.proofs.ReadingsKept as kept
 use Rattle.kern_layout.proofs.Written as written
 use Rattle.kern_layout.proofs.Moved as moved
 

@@ -5,20 +5,20 @@ use Rattle.std.proofs.lemmas.List.{length-set}
 use Rattle.std.proofs.lemmas.Bool.{cases_lt, cases_eq}
 use Rattle.psx_base.specs.KernelState.{Thread, Free, Event, Frame, KernelState}
 use Rattle.kern_layout.specs.Fields.{Fields, Block}
-use Rattle.kern_layout.specs.Stores.{Same, Kept, SameBytes, with_thread, with_event, with_frame, with_chain}
+use Rattle.kern_layout.specs.Stores.{Same, SameOutside, SameBytes, with_thread, with_event, with_frame, with_chain}
 use Rattle.kern_layout.specs.Contexts.{thread_fields}
 use Rattle.kern_layout.specs.Tasks.{FrameAt}
 use Rattle.kern_layout.specs.HeapTable.{HeapAt}
 use Rattle.kern_layout.specs.Reads.{Reads, event_fields, no_event, file_fields, no_frame, frame_at, thread_at, event_at, file_at, ChainAt, chain_at, variables, next_word}
 use Rattle.kern_layout.specs.Valid.{Valid}
 use Rattle.kern_layout.proofs.Blocks.{rows_set}
-use Rattle.kern_layout.proofs.Kept as kept
+use Rattle.kern_layout.proofs.ReadingsKept as kept
 
 -- what lies below or above a range that alone is written
-pub below : (low high from to : ℕ) (w x : ℕ → ℕ) → to ≤ low → Kept low high w x → Same from to w x
+pub below : (low high from to : ℕ) (w x : ℕ → ℕ) → to ≤ low → SameOutside low high w x → Same from to w x
 below low high from to w x le k = λ a m lo up. k a m (inl (omega arith))
 
-pub above : (low high from to : ℕ) (w x : ℕ → ℕ) → high ≤ from → Kept low high w x → Same from to w x
+pub above : (low high from to : ℕ) (w x : ℕ → ℕ) → high ≤ from → SameOutside low high w x → Same from to w x
 above low high from to w x le k = λ a m lo up. k a m (inr (omega arith))
 
 -- the variables' fields
@@ -26,7 +26,7 @@ abbrev pub variable_fields : (current next frames threads events random token er
 variable_fields current next frames threads events random token errno line base = (0, current) ∷ (4, next) ∷ (8, frames) ∷ (0xC, threads) ∷ (0x10, events) ∷ (0x14, random) ∷ (0x18, token) ∷ (0x1C, errno) ∷ (0x20, line) ∷ (0x24, base) ∷ []
 
 -- a thread's block is written
-pub reads_thread : (s : KernelState) → Valid s → (w x b c : ℕ → ℕ) → SameBytes 0xE900 0xEA00 b c → (n : ℕ) (t : Thread) → n < length s.threads → Kept (thread_at n) (thread_at n + 0xC0) w x → Block x (thread_at n) (thread_fields s.current n t) → Reads s w b → Reads (with_thread s n t) x c
+pub reads_thread : (s : KernelState) → Valid s → (w x b c : ℕ → ℕ) → SameBytes 0xE900 0xEA00 b c → (n : ℕ) (t : Thread) → n < length s.threads → SameOutside (thread_at n) (thread_at n + 0xC0) w x → Block x (thread_at n) (thread_fields s.current n t) → Reads s w b → Reads (with_thread s n t) x c
 reads_thread s v w x b c line n t lt out new old = record {
   threads = rows_set 0xB000 0xC0 (thread_fields s.current) Free kept.thread_aligned (kept.fit_thread s.current) w x s.threads n t lt out new old.threads;
   events = kept.events_kept s.events v.events_most w x (above (thread_at n) (thread_at n + 0xC0) 0xBC00 0xC300 w x (omega (arith, lt, v.threads_most)) out) old.events;
@@ -39,7 +39,7 @@ reads_thread s v w x b c line n t lt out new old = record {
 }
 
 -- an event's block is written
-pub reads_event : (s : KernelState) → Valid s → (w x b c : ℕ → ℕ) → SameBytes 0xE900 0xEA00 b c → (i : ℕ) (e : Event) → i < length s.events → Kept (event_at i) (event_at i + 0x1C) w x → Block x (event_at i) (event_fields i e) → Reads s w b → Reads (with_event s i e) x c
+pub reads_event : (s : KernelState) → Valid s → (w x b c : ℕ → ℕ) → SameBytes 0xE900 0xEA00 b c → (i : ℕ) (e : Event) → i < length s.events → SameOutside (event_at i) (event_at i + 0x1C) w x → Block x (event_at i) (event_fields i e) → Reads s w b → Reads (with_event s i e) x c
 reads_event s v w x b c line i e lt out new old = record {
   threads = kept.threads_kept s.current s.threads v.threads_most w x (below (event_at i) (event_at i + 0x1C) 0xB000 0xBC00 w x (omega (arith, lt, v.events_most)) out) old.threads;
   events = rows_set 0xBC00 0x1C event_fields no_event kept.event_aligned kept.fit_event w x s.events i e lt out new old.events;
@@ -52,7 +52,7 @@ reads_event s v w x b c line i e lt out new old = record {
 }
 
 -- a file's word is written
-pub reads_file : (s : KernelState) → Valid s → (w x b c : ℕ → ℕ) → SameBytes 0xE900 0xEA00 b c → (n : ℕ) (f : Option ℕ) → n < 16 → Kept (file_at n) (file_at n + 4) w x → Block x (file_at n) (file_fields n f) → Reads s w b → Reads record s { files = slice_set s.files n f } x c
+pub reads_file : (s : KernelState) → Valid s → (w x b c : ℕ → ℕ) → SameBytes 0xE900 0xEA00 b c → (n : ℕ) (f : Option ℕ) → n < 16 → SameOutside (file_at n) (file_at n + 4) w x → Block x (file_at n) (file_fields n f) → Reads s w b → Reads record s { files = slice_set s.files n f } x c
 reads_file s v w x b c line n f lt out new old = record {
   threads = kept.threads_kept s.current s.threads v.threads_most w x (below (file_at n) (file_at n + 4) 0xB000 0xBC00 w x (omega (arith, lt)) out) old.threads;
   events = kept.events_kept s.events v.events_most w x (below (file_at n) (file_at n + 4) 0xBC00 0xC300 w x (omega (arith, lt)) out) old.events;
@@ -73,7 +73,7 @@ get_set P none xs i y lt new old j h =
     (cases_eq j i)
 
 -- a frame is written
-pub reads_frame : (s : KernelState) → Valid s → (w x b c : ℕ → ℕ) → SameBytes 0xE900 0xEA00 b c → (n : ℕ) (f : Frame) → n < length s.frames → Kept (frame_at n) (frame_at n + 0x180) w x → FrameAt x (frame_at n) f → Reads s w b → Reads (with_frame s n f) x c
+pub reads_frame : (s : KernelState) → Valid s → (w x b c : ℕ → ℕ) → SameBytes 0xE900 0xEA00 b c → (n : ℕ) (f : Frame) → n < length s.frames → SameOutside (frame_at n) (frame_at n + 0x180) w x → FrameAt x (frame_at n) f → Reads s w b → Reads (with_frame s n f) x c
 reads_frame s v w x b c line n f lt out new old = record {
   threads = kept.threads_kept s.current s.threads v.threads_most w x (below (frame_at n) (frame_at n + 0x180) 0xB000 0xBC00 w x (omega (arith, lt, v.frames_most)) out) old.threads;
   events = kept.events_kept s.events v.events_most w x (below (frame_at n) (frame_at n + 0x180) 0xBC00 0xC300 w x (omega (arith, lt, v.frames_most)) out) old.events;
@@ -86,7 +86,7 @@ reads_frame s v w x b c line n f lt out new old = record {
 }
 
 -- a chain is written
-pub reads_chain : (s : KernelState) → Valid s → (w x b c : ℕ → ℕ) → SameBytes 0xE900 0xEA00 b c → (p : ℕ) (es : List ℕ) → p < 4 → Kept (chain_at p) (chain_at p + 0x40) w x → ChainAt x (chain_at p) es → Reads s w b → Reads (with_chain s p es) x c
+pub reads_chain : (s : KernelState) → Valid s → (w x b c : ℕ → ℕ) → SameBytes 0xE900 0xEA00 b c → (p : ℕ) (es : List ℕ) → p < 4 → SameOutside (chain_at p) (chain_at p + 0x40) w x → ChainAt x (chain_at p) es → Reads s w b → Reads (with_chain s p es) x c
 reads_chain s v w x b c line p es lt out new old = record {
   threads = kept.threads_kept s.current s.threads v.threads_most w x (below (chain_at p) (chain_at p + 0x40) 0xB000 0xBC00 w x (omega (arith, lt)) out) old.threads;
   events = kept.events_kept s.events v.events_most w x (below (chain_at p) (chain_at p + 0x40) 0xBC00 0xC300 w x (omega (arith, lt)) out) old.events;
@@ -99,7 +99,7 @@ reads_chain s v w x b c line p es lt out new old = record {
 }
 
 -- the variables are written, but for the counts of the tables, the running number and the line's length
-pub reads_variables : (s : KernelState) → Valid s → (w x b c : ℕ → ℕ) → SameBytes 0xE900 0xEA00 b c → (next : Option ℕ) (random token errno base : ℕ) → let e = record s { next = next; random = random; token = token; errno = errno; heap = record s.heap { base = base } } in Kept 0xEA00 0xEA28 w x → Block x 0xEA00 (variables e) → Reads s w b → Reads e x c
+pub reads_variables : (s : KernelState) → Valid s → (w x b c : ℕ → ℕ) → SameBytes 0xE900 0xEA00 b c → (next : Option ℕ) (random token errno base : ℕ) → let e = record s { next = next; random = random; token = token; errno = errno; heap = record s.heap { base = base } } in SameOutside 0xEA00 0xEA28 w x → Block x 0xEA00 (variables e) → Reads s w b → Reads e x c
 reads_variables s v w x b c line next random token errno base out new old = record {
   threads = kept.threads_kept s.current s.threads v.threads_most w x (below 0xEA00 0xEA28 0xB000 0xBC00 w x (omega (arith)) out) old.threads;
   events = kept.events_kept s.events v.events_most w x (below 0xEA00 0xEA28 0xBC00 0xC300 w x (omega (arith)) out) old.events;

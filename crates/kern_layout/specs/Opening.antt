@@ -5,19 +5,20 @@ use Rattle.psx_base.specs.Memory.{Memory}
 use Rattle.kern_layout.specs.Reads.{Reads}
 use Rattle.kern_layout.specs.Stores.{put}
 use Rattle.kern_layout.specs.Start.{start, SizesFit}
-use Rattle.kern_layout.specs.Numbers.{thread_size, free_thread, used_thread, heap_entries, heap_entry_size, file_size, thread_count_at, event_count_at, heap_spare_at, threads_at, events_at, heap_table_at, files_at}
+use Rattle.kern_layout.specs.declared.places.TheConstants.{THREAD_SIZE, THREAD_FREE, THREAD_USED, HEAP_ENTRIES, HEAP_ENTRY_SIZE, FILE_SIZE, THREAD_COUNT, EVENT_COUNT, HEAP_SPARE}
+use Rattle.kern_layout.specs.Numbers.{threads_at, events_at, heap_table_at, files_at}
 
 -- among the thread control blocks, by the place behind the first: thread 0 is used, and the others are free
 abbrev pub thread_opening : ℕ → ℕ
-thread_opening o = if nat_eq o 0 then used_thread else (if nat_eq (o % thread_size) 0 then free_thread else 0)
+thread_opening o = if nat_eq o 0 then THREAD_USED else (if nat_eq (o % THREAD_SIZE) 0 then THREAD_FREE else 0)
 
 -- in the heap's table, by the place behind the first entry: each entry names the next one, and the last none
 abbrev pub heap_opening : ℕ → ℕ
-heap_opening o = if nat_eq (o % heap_entry_size) 0 && nat_lt (o + heap_entry_size) (heap_entries * heap_entry_size) then heap_table_at + (o + heap_entry_size) else 0
+heap_opening o = if nat_eq (o % HEAP_ENTRY_SIZE) 0 && nat_lt (o + HEAP_ENTRY_SIZE) (HEAP_ENTRIES * HEAP_ENTRY_SIZE) then heap_table_at + (o + HEAP_ENTRY_SIZE) else 0
 
 -- elsewhere: file 0 is open for reading and file 1 for writing, and the first entry of the heap's table is the first spare one
 abbrev pub other_opening : ℕ → ℕ
-other_opening a = if nat_eq a files_at then 1 else (if nat_eq a (files_at + file_size) then 2 else (if nat_eq a heap_spare_at then heap_table_at else 0))
+other_opening a = if nat_eq a files_at then 1 else (if nat_eq a (files_at + FILE_SIZE) then 2 else (if nat_eq a HEAP_SPARE then heap_table_at else 0))
 
 -- the word at an address from B000h on
 abbrev pub opening_at : ℕ → ℕ
@@ -29,4 +30,4 @@ Opens w = (a : ℕ) → a % 4 ≡ 0 → threads_at ≤ a → a < 0x10000 → w a
 
 -- with the two sizes stored they read as the state at a program's begin, whatever program it is
 abbrev pub OpensAsStart : Type 0
-OpensAsStart = (w b : ℕ → ℕ) (pc gp stack : ℕ) (m : Memory) (sizes : Sizes) → SizesFit sizes → Opens w → Reads (start pc gp stack m sizes) (put (put w thread_count_at sizes.threads) event_count_at sizes.events) b
+OpensAsStart = (w b : ℕ → ℕ) (pc gp stack : ℕ) (m : Memory) (sizes : Sizes) → SizesFit sizes → Opens w → Reads (start pc gp stack m sizes) (put (put w THREAD_COUNT sizes.threads) EVENT_COUNT sizes.events) b

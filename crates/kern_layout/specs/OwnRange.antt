@@ -5,7 +5,8 @@ use Rattle.kern_layout.specs.HeapTable.{HeapAt}
 use Rattle.kern_layout.specs.Stores.{Same, SameBytes}
 use Rattle.kern_layout.specs.Reads.{Reads, ThreadsAt, EventsAt, FramesAt, frame_at, ChainsAt, FilesAt, LineAt, VariablesAt}
 use Rattle.kern_layout.specs.Valid.{Valid}
-use Rattle.kern_layout.specs.Numbers.{work_area, heap_first_at, heap_spare_at, threads_at, events_at, frames_at, chains_at, heap_table_at, files_at, line_at, variables_at, variables_size}
+use Rattle.kern_layout.specs.declared.places.TheConstants.{WORK_AREA, HEAP_FIRST, HEAP_SPARE}
+use Rattle.kern_layout.specs.Numbers.{threads_at, events_at, frames_at, chains_at, heap_table_at, files_at, line_at, variables_at, variables_size}
 
 abbrev pub ThreadsOwn : Type 0
 ThreadsOwn = (s : KernelState) (w x : ℕ → ℕ) → Valid s → Same threads_at events_at w x → ThreadsAt w s.current s.threads → ThreadsAt x s.current s.threads
@@ -22,7 +23,7 @@ ChainsOwn = (s : KernelState) (w x : ℕ → ℕ) → Valid s → Same chains_at
 
 -- the heap has its table and two variables
 abbrev pub HeapOwn : Type 0
-HeapOwn = (s : KernelState) (w x : ℕ → ℕ) → Same heap_table_at files_at w x → Same heap_first_at (heap_spare_at + 4) w x → HeapAt w s.heap → HeapAt x s.heap
+HeapOwn = (s : KernelState) (w x : ℕ → ℕ) → Same heap_table_at files_at w x → Same HEAP_FIRST (HEAP_SPARE + 4) w x → HeapAt w s.heap → HeapAt x s.heap
 
 abbrev pub FilesOwn : Type 0
 FilesOwn = (s : KernelState) (w x : ℕ → ℕ) → Valid s → Same files_at line_at w x → FilesAt w s.files → FilesAt x s.files
@@ -35,4 +36,4 @@ VariablesOwn = (s : KernelState) (w x : ℕ → ℕ) → Same variables_at (vari
 
 -- no reading looks at the places behind the last frame, nor from the work area on
 abbrev pub FreeWords : Type 0
-FreeWords = (s : KernelState) (w x b c : ℕ → ℕ) → Valid s → SameBytes line_at variables_at b c → Same threads_at (frame_at (length s.frames)) w x → Same chains_at line_at w x → Same variables_at work_area w x → Reads s w b → Reads s x c
+FreeWords = (s : KernelState) (w x b c : ℕ → ℕ) → Valid s → SameBytes line_at variables_at b c → Same threads_at (frame_at (length s.frames)) w x → Same chains_at line_at w x → Same variables_at WORK_AREA w x → Reads s w b → Reads s x c

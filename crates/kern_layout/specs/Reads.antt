@@ -6,11 +6,12 @@ use Rattle.kern_layout.specs.Fields.{Fields, Block, Rows, Stack}
 use Rattle.kern_layout.specs.Contexts.{thread_fields}
 use Rattle.kern_layout.specs.Tasks.{FrameAt}
 use Rattle.kern_layout.specs.HeapTable.{HeapAt}
-use Rattle.kern_layout.specs.Numbers.{thread_size, event_size, event_class, event_status, event_spec, event_mode, event_function, frame_size, chain_size, chain_elements, file_size, current_at, next_at, frame_count_at, thread_count_at, event_count_at, random_at, token_at, errno_at, line_length_at, heap_base_at, threads_at, events_at, frames_at, chains_at, files_at, line_at, variables_at}
+use Rattle.kern_layout.specs.declared.places.TheConstants.{THREAD_SIZE, EVENT_SIZE, EVENT_CLASS, EVENT_STATUS, EVENT_SPEC, EVENT_MODE, EVENT_FUNCTION, FRAME_SIZE, CHAIN_SIZE, CHAIN_ELEMENTS, FILE_SIZE, CURRENT, NEXT, FRAME_COUNT, THREAD_COUNT, EVENT_COUNT, RANDOM, TOKEN, ERRNO, LINE_LENGTH, HEAP_BASE}
+use Rattle.kern_layout.specs.Numbers.{threads_at, events_at, frames_at, chains_at, files_at, line_at, variables_at}
 
 -- an event's control block
 abbrev pub event_fields : ℕ → Event → Fields
-event_fields i e = (event_class, e.class) ∷ (event_status, e.status) ∷ (event_spec, e.spec) ∷ (event_mode, e.mode) ∷ (event_function, e.function) ∷ []
+event_fields i e = (EVENT_CLASS, e.class) ∷ (EVENT_STATUS, e.status) ∷ (EVENT_SPEC, e.spec) ∷ (EVENT_MODE, e.mode) ∷ (EVENT_FUNCTION, e.function) ∷ []
 
 -- a free event, as at the start
 abbrev pub no_event : Event
@@ -24,7 +25,7 @@ file_fields n (Some mode) = (0, mode) ∷ []
 -- a chain: how many elements it has, and these, the head last
 pub record ChainAt (w : ℕ → ℕ) (at : ℕ) (es : List ℕ) : Type 0 where
   pub count : w at ≡ length es
-  pub elements : Stack w (at + chain_elements) es
+  pub elements : Stack w (at + CHAIN_ELEMENTS) es
 
 -- a thread's number and 1 more, or 0 for none
 abbrev pub next_word : Option ℕ → ℕ
@@ -33,23 +34,23 @@ next_word (Some n) = suc n
 
 -- the variables, the two sizes among them
 abbrev pub variables : KernelState → Fields
-variables s = (current_at - variables_at, s.current) ∷ (next_at - variables_at, next_word s.next) ∷ (frame_count_at - variables_at, length s.frames) ∷ (thread_count_at - variables_at, length s.threads) ∷ (event_count_at - variables_at, length s.events) ∷ (random_at - variables_at, s.random) ∷ (token_at - variables_at, s.token) ∷ (errno_at - variables_at, s.errno) ∷ (line_length_at - variables_at, length s.line) ∷ (heap_base_at - variables_at, s.heap.base) ∷ []
+variables s = (CURRENT - variables_at, s.current) ∷ (NEXT - variables_at, next_word s.next) ∷ (FRAME_COUNT - variables_at, length s.frames) ∷ (THREAD_COUNT - variables_at, length s.threads) ∷ (EVENT_COUNT - variables_at, length s.events) ∷ (RANDOM - variables_at, s.random) ∷ (TOKEN - variables_at, s.token) ∷ (ERRNO - variables_at, s.errno) ∷ (LINE_LENGTH - variables_at, length s.line) ∷ (HEAP_BASE - variables_at, s.heap.base) ∷ []
 
 -- the address of a thread's, an event's and a file's block, of a frame and of a chain
 abbrev pub thread_at : ℕ → ℕ
-thread_at n = threads_at + thread_size * n
+thread_at n = threads_at + THREAD_SIZE * n
 
 abbrev pub event_at : ℕ → ℕ
-event_at i = events_at + event_size * i
+event_at i = events_at + EVENT_SIZE * i
 
 abbrev pub frame_at : ℕ → ℕ
-frame_at n = frames_at + frame_size * n
+frame_at n = frames_at + FRAME_SIZE * n
 
 abbrev pub chain_at : ℕ → ℕ
-chain_at p = chains_at + chain_size * p
+chain_at p = chains_at + CHAIN_SIZE * p
 
 abbrev pub file_at : ℕ → ℕ
-file_at n = files_at + file_size * n
+file_at n = files_at + FILE_SIZE * n
 
 -- what a table has at a number that it doesn't have
 abbrev pub no_context : ThreadContext
@@ -73,14 +74,14 @@ chain s p = slice_index_or s.chains p []
 
 -- the thread and event control blocks, by number; of the running thread the status alone is looked at
 abbrev pub ThreadsAt : (ℕ → ℕ) → (current : ℕ) → List Thread → Type 0
-ThreadsAt w current ts = Rows w threads_at thread_size (thread_fields current) ts Free
+ThreadsAt w current ts = Rows w threads_at THREAD_SIZE (thread_fields current) ts Free
 
 abbrev pub EventsAt : (ℕ → ℕ) → List Event → Type 0
-EventsAt w es = Rows w events_at event_size event_fields es no_event
+EventsAt w es = Rows w events_at EVENT_SIZE event_fields es no_event
 
 -- the files
 abbrev pub FilesAt : (ℕ → ℕ) → List (Option ℕ) → Type 0
-FilesAt w fs = Rows w files_at file_size file_fields fs None
+FilesAt w fs = Rows w files_at FILE_SIZE file_fields fs None
 
 -- the variables
 abbrev pub VariablesAt : (ℕ → ℕ) → KernelState → Type 0

@@ -6,7 +6,7 @@ use Rattle.psx_base.specs.Memory.{Memory, byte, word}
 use Rattle.psx_base.specs.Context.{Context}
 use Rattle.psx_base.specs.KernelState.{KernelState}
 use Rattle.kern_layout.specs.declared.ranges.Range.{Range}
-use Rattle.kern_layout.specs.Ranges.{vector_range, gate_a_range, gate_b_range, gate_c_range, gate_done_range, gate_back_range, table_a_range, table_c_range, table_b_range, entry_code_range, thread_code_range, event_code_range, timer_code_range, memory_code_range, text_code_range, printf_code_range, heap_code_range, file_code_range}
+use Rattle.kern_layout.specs.declared.ranges.TheConstants.{VECTOR, GATE_A, GATE_B, GATE_C, GATE_DONE, GATE_BACK, TABLE_A, TABLE_C, TABLE_B, ENTRY_CODE, THREAD_CODE, EVENT_CODE, TIMER_CODE, MEMORY_CODE, TEXT_CODE, PRINTF_CODE, HEAP_CODE, FILE_CODE}
 use Rattle.kern_layout.specs.Reads.{Reads}
 
 -- what of a processor tells on which side it is and where: its context, SR, and the latch
@@ -21,7 +21,7 @@ user_sr on = if on then 0x401 else 0x400
 
 -- the ranges that hold the ROM's words: the vector, the gates, the tables and the code
 abbrev pub fixed_ranges : List Range
-fixed_ranges = vector_range ∷ gate_a_range ∷ gate_b_range ∷ gate_c_range ∷ gate_done_range ∷ gate_back_range ∷ table_a_range ∷ table_c_range ∷ table_b_range ∷ entry_code_range ∷ thread_code_range ∷ event_code_range ∷ timer_code_range ∷ memory_code_range ∷ text_code_range ∷ printf_code_range ∷ heap_code_range ∷ file_code_range ∷ []
+fixed_ranges = VECTOR ∷ GATE_A ∷ GATE_B ∷ GATE_C ∷ GATE_DONE ∷ GATE_BACK ∷ TABLE_A ∷ TABLE_C ∷ TABLE_B ∷ ENTRY_CODE ∷ THREAD_CODE ∷ EVENT_CODE ∷ TIMER_CODE ∷ MEMORY_CODE ∷ TEXT_CODE ∷ PRINTF_CODE ∷ HEAP_CODE ∷ FILE_CODE ∷ []
 
 abbrev pub is_fixed : ℕ → Bool
 is_fixed a = list_any (λ (r : Range). nat_le r.from a && nat_lt a r.to) fixed_ranges

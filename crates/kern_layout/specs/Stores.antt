@@ -12,8 +12,8 @@ abbrev pub Same : (low high : ℕ) → (ℕ → ℕ) → (ℕ → ℕ) → Type 
 Same low high w x = (a : ℕ) → a % 4 ≡ 0 → low ≤ a → a < high → x a ≡ w a
 
 -- those outside a range are
-abbrev pub Kept : (low high : ℕ) → (ℕ → ℕ) → (ℕ → ℕ) → Type 0
-Kept low high w x = (a : ℕ) → a % 4 ≡ 0 → (a < low) ⊎ (high ≤ a) → x a ≡ w a
+abbrev pub SameOutside : (low high : ℕ) → (ℕ → ℕ) → (ℕ → ℕ) → Type 0
+SameOutside low high w x = (a : ℕ) → a % 4 ≡ 0 → (a < low) ⊎ (high ≤ a) → x a ≡ w a
 
 -- the bytes in a range are the same
 abbrev pub SameBytes : (low high : ℕ) → (ℕ → ℕ) → (ℕ → ℕ) → Type 0

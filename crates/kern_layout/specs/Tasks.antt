@@ -3,7 +3,7 @@ use Rattle.std.specs.Prelude.{◌≡◌, ℕ, ◌+◌, List, [], ◌∷◌, ◌+
 use Rattle.psx_base.specs.KernelState.{Task, Element, Second, Line, Scan, Frame}
 use Rattle.kern_layout.specs.Fields.{Fields, Block, Stack}
 use Rattle.kern_layout.specs.Contexts.{saved}
-use Rattle.kern_layout.specs.Numbers.{frame_kind, frame_first, frame_spec, frame_event, frame_element_count, frame_line_count, frame_lines, frame_elements, no_kind, second_kind, scan_kind}
+use Rattle.kern_layout.specs.declared.places.TheConstants.{FRAME_KIND, FRAME_FIRST, FRAME_SPEC, FRAME_EVENT, FRAME_ELEMENT_COUNT, FRAME_LINE_COUNT, FRAME_LINES, FRAME_ELEMENTS, KIND_NONE, KIND_SECOND, KIND_SCAN}
 
 -- the task under way: a second function or a scan, where the tasks begin by one
 abbrev pub under_way : List Task → List Task
@@ -35,22 +35,22 @@ InOrder ts = ts ≡ under_way ts ++ (map Element (elements_of ts) ++ map Line (l
 
 -- how a frame has the task under way
 abbrev pub under_way_fields : List Task → Fields
-under_way_fields [] = (frame_kind, no_kind) ∷ []
-under_way_fields (Element e ∷ ts) = (frame_kind, no_kind) ∷ []
-under_way_fields (Second e ∷ ts) = (frame_kind, second_kind) ∷ (frame_first, e) ∷ []
-under_way_fields (Line n ∷ ts) = (frame_kind, no_kind) ∷ []
-under_way_fields (Scan class spec i ∷ ts) = (frame_kind, scan_kind) ∷ (frame_first, class) ∷ (frame_spec, spec) ∷ (frame_event, i) ∷ []
+under_way_fields [] = (FRAME_KIND, KIND_NONE) ∷ []
+under_way_fields (Element e ∷ ts) = (FRAME_KIND, KIND_NONE) ∷ []
+under_way_fields (Second e ∷ ts) = (FRAME_KIND, KIND_SECOND) ∷ (FRAME_FIRST, e) ∷ []
+under_way_fields (Line n ∷ ts) = (FRAME_KIND, KIND_NONE) ∷ []
+under_way_fields (Scan class spec i ∷ ts) = (FRAME_KIND, KIND_SCAN) ∷ (FRAME_FIRST, class) ∷ (FRAME_SPEC, spec) ∷ (FRAME_EVENT, i) ∷ []
 
 -- how many elements and lines are left
 abbrev pub count_fields : List Task → Fields
-count_fields ts = (frame_element_count, length (elements_of ts)) ∷ (frame_line_count, length (lines_of ts)) ∷ []
+count_fields ts = (FRAME_ELEMENT_COUNT, length (elements_of ts)) ∷ (FRAME_LINE_COUNT, length (lines_of ts)) ∷ []
 
 -- the block at an address, a frame's or the work area, has these tasks
 pub record TasksAt (w : ℕ → ℕ) (at : ℕ) (ts : List Task) : Type 0 where
   pub first : Block w at (under_way_fields ts)
   pub counts : Block w at (count_fields ts)
-  pub lines : Stack w (at + frame_lines) (lines_of ts)
-  pub elements : Stack w (at + frame_elements) (elements_of ts)
+  pub lines : Stack w (at + FRAME_LINES) (lines_of ts)
+  pub elements : Stack w (at + FRAME_ELEMENTS) (elements_of ts)
 
 -- it has this frame
 pub record FrameAt (w : ℕ → ℕ) (at : ℕ) (f : Frame) : Type 0 where

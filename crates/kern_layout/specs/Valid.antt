@@ -6,7 +6,7 @@ use Rattle.psx_base.specs.Context.{Context, IsAtRest}
 use Rattle.psx_base.specs.KernelState.{Thread, Free, Used, Event, Task, Element, Second, Line, Scan, Frame, Heap, KernelState}
 use Rattle.kern_layout.specs.Tasks.{InOrder, elements_of, lines_of}
 use Rattle.kern_layout.specs.Reads.{thread}
-use Rattle.kern_layout.specs.Numbers.{free_event, disabled_event, busy_event, ready_event, heap_entries}
+use Rattle.kern_layout.specs.declared.places.TheConstants.{EVENT_FREE, EVENT_DISABLED, EVENT_BUSY, EVENT_READY, HEAP_ENTRIES}
 
 -- a used thread's context is at rest
 abbrev pub ThreadRests : Thread → Type 0
@@ -29,7 +29,7 @@ NextFits s (Some n) = (n < length s.threads) × IsUsed (thread s n) × (n ≢ s.
 
 -- an event's status: free, disabled, busy or ready
 abbrev pub IsStatus : ℕ → Type 0
-IsStatus v = (v ≡ free_event) ⊎ ((v ≡ disabled_event) ⊎ ((v ≡ busy_event) ⊎ (v ≡ ready_event)))
+IsStatus v = (v ≡ EVENT_FREE) ⊎ ((v ≡ EVENT_DISABLED) ⊎ ((v ≡ EVENT_BUSY) ⊎ (v ≡ EVENT_READY)))
 
 -- an element of a chain: a multiple of 4 with 12 bytes of user memory
 pub record IsElement (e : ℕ) : Type 0 where
@@ -88,7 +88,7 @@ NoneFreeBoth (a ∷ b ∷ bs) = ((a.1 ≡ true) ⊎ (b.1 ≡ true)) × NoneFreeB
 -- the bytes of all blocks, from the base on, are user memory
 pub record HeapFits (h : Heap) : Type 0 where
   pub base : h.base % 8 ≡ 0
-  pub few : length h.blocks ≤ heap_entries
+  pub few : length h.blocks ≤ HEAP_ENTRIES
   pub sizes : All BlockFits h.blocks
   pub joined : NoneFreeBoth h.blocks
   pub bytes : first_bad_of h.base (sum_by (λ (b : ℕ × Bool). b.0) h.blocks) ≡ None

@@ -1,5 +1,5 @@
 //! The kernel's 64 KB: where everything stands in it, and by which words it is the kernel's state.
-//! The places meet the numbers of specs/Numbers.antt; the readings and the laws of a store are specs/Reads.antt and specs/StoreLaws.antt.
+//! The numbers stand in places.rt and ranges.rt, where the definitions read them; the readings and the laws of a store are specs/Reads.antt and specs/StoreLaws.antt.
 //! The crates that hold the kernel's code use the places and the laws, and the image is made of a `KernelBlock`.
 #![tactic(auto)]
 

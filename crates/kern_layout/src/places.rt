@@ -1,7 +1,8 @@
 //! The places inside the blocks of the kernel's 64 KB, the variables, and the places in the code at which routines arrive or which they call.
 //! Offsets are in bytes from the block's address; addresses are physical.
+//! The control blocks of threads and events are after PSX-SPX, Kernel (BIOS), Thread Functions and Event Functions; the rest is this project's own.
+//! These are the layout's numbers: the definitions in specs/ read them.
 ghost use Rattle.std.specs.Prelude.{◌≡◌, ◌+◌, ◌*◌, ◌<◌, ◌≤◌};
-ghost use Rattle.kern_layout.specs.Numbers as number;
 
 use crate::ranges::{CHAINS, ENTRY_CODE, EVENTS, FILES, FRAMES, HEAP_TABLE, STACK, THREADS};
 
@@ -185,8 +186,20 @@ pub const HEAP_SPARE: u32 = 0xEA44;
 /// Where a routine arrives with its answer in r2.
 pub const LEAVE: u32 = 0x1400;
 
+/// Where a call arrives that waits: the context of the work area is taken up as it is.
+pub const WAIT: u32 = LEAVE + 0x80;
+
 /// Where a routine arrives with tasks to do.
 pub const WORK: u32 = 0x1600;
+
+/// Where a routine arrives with an address in r8 that isn't user memory.
+pub const BAD_POINTER: u32 = 0x1800;
+
+/// Where a routine arrives with a handle in r8 that names no thread.
+pub const BAD_THREAD: u32 = 0x1820;
+
+/// Where a stay arrives that needs a frame more than there is room for.
+pub const DEEP: u32 = 0x1840;
 
 /// The listing that reads a byte of user memory, or tells that it is none. Room for 40 words, as for the three that follow.
 pub const TESTED_READ_BYTE: u32 = 0x1D80;
@@ -200,103 +213,6 @@ pub const TESTED_READ_WORD: u32 = 0x1EC0;
 /// The listing that writes a word of user memory.
 pub const TESTED_WRITE_WORD: u32 = 0x1F60;
 
-/// A thread's control block has the numbers of the layout.
-pub fn thread_places()
-    ensures thread_blocks { THREAD_BLOCKS ≡ number.thread_blocks }
-    ensures thread_size { THREAD_SIZE ≡ number.thread_size }
-    ensures thread_status { THREAD_STATUS ≡ number.thread_status }
-    ensures saved_registers { SAVED_REGISTERS ≡ number.saved_registers }
-    ensures saved_pc { SAVED_PC ≡ number.saved_pc }
-    ensures saved_hi { SAVED_HI ≡ number.saved_hi }
-    ensures saved_lo { SAVED_LO ≡ number.saved_lo }
-    ensures saved_sr { SAVED_SR ≡ number.saved_sr }
-    ensures thread_cause { THREAD_CAUSE ≡ number.thread_cause }
-    ensures free_thread { THREAD_FREE ≡ number.free_thread }
-    ensures used_thread { THREAD_USED ≡ number.used_thread }
-{}
-
-/// An event's control block has the numbers of the layout.
-pub fn event_places()
-    ensures event_blocks { EVENT_BLOCKS ≡ number.event_blocks }
-    ensures event_size { EVENT_SIZE ≡ number.event_size }
-    ensures event_class { EVENT_CLASS ≡ number.event_class }
-    ensures event_status { EVENT_STATUS ≡ number.event_status }
-    ensures event_spec { EVENT_SPEC ≡ number.event_spec }
-    ensures event_mode { EVENT_MODE ≡ number.event_mode }
-    ensures event_function { EVENT_FUNCTION ≡ number.event_function }
-    ensures free_event { EVENT_FREE ≡ number.free_event }
-    ensures disabled_event { EVENT_DISABLED ≡ number.disabled_event }
-    ensures busy_event { EVENT_BUSY ≡ number.busy_event }
-    ensures ready_event { EVENT_READY ≡ number.ready_event }
-{}
-
-/// A frame, and the work area has the numbers of the layout.
-pub fn frame_places()
-    ensures frame_blocks { FRAME_BLOCKS ≡ number.frame_blocks }
-    ensures frame_size { FRAME_SIZE ≡ number.frame_size }
-    ensures frame_kind { FRAME_KIND ≡ number.frame_kind }
-    ensures frame_first { FRAME_FIRST ≡ number.frame_first }
-    ensures frame_spec { FRAME_SPEC ≡ number.frame_spec }
-    ensures frame_event { FRAME_EVENT ≡ number.frame_event }
-    ensures frame_element_count { FRAME_ELEMENT_COUNT ≡ number.frame_element_count }
-    ensures frame_line_count { FRAME_LINE_COUNT ≡ number.frame_line_count }
-    ensures frame_lines { FRAME_LINES ≡ number.frame_lines }
-    ensures frame_elements { FRAME_ELEMENTS ≡ number.frame_elements }
-    ensures no_kind { KIND_NONE ≡ number.no_kind }
-    ensures second_kind { KIND_SECOND ≡ number.second_kind }
-    ensures scan_kind { KIND_SCAN ≡ number.scan_kind }
-    ensures work_area { WORK_AREA ≡ number.work_area }
-{}
-
-/// A chain has the numbers of the layout.
-pub fn chain_places()
-    ensures chain_blocks { CHAIN_BLOCKS ≡ number.chain_blocks }
-    ensures chain_size { CHAIN_SIZE ≡ number.chain_size }
-    ensures chain_count { CHAIN_COUNT ≡ number.chain_count }
-    ensures chain_elements { CHAIN_ELEMENTS ≡ number.chain_elements }
-{}
-
-/// An entry of the heap table has the numbers of the layout.
-pub fn heap_places()
-    ensures heap_entries { HEAP_ENTRIES ≡ number.heap_entries }
-    ensures heap_entry_size { HEAP_ENTRY_SIZE ≡ number.heap_entry_size }
-    ensures heap_next { HEAP_NEXT ≡ number.heap_next }
-    ensures heap_block_size { HEAP_BLOCK_SIZE ≡ number.heap_block_size }
-    ensures heap_block_used { HEAP_BLOCK_USED ≡ number.heap_block_used }
-{}
-
-/// A file has the numbers of the layout.
-pub fn file_places()
-    ensures file_blocks { FILE_BLOCKS ≡ number.file_blocks }
-    ensures file_size { FILE_SIZE ≡ number.file_size }
-{}
-
-/// A variable has the numbers of the layout.
-pub fn variable_places()
-    ensures current_at { CURRENT ≡ number.current_at }
-    ensures next_at { NEXT ≡ number.next_at }
-    ensures frame_count_at { FRAME_COUNT ≡ number.frame_count_at }
-    ensures thread_count_at { THREAD_COUNT ≡ number.thread_count_at }
-    ensures event_count_at { EVENT_COUNT ≡ number.event_count_at }
-    ensures random_at { RANDOM ≡ number.random_at }
-    ensures token_at { TOKEN ≡ number.token_at }
-    ensures errno_at { ERRNO ≡ number.errno_at }
-    ensures line_length_at { LINE_LENGTH ≡ number.line_length_at }
-    ensures heap_base_at { HEAP_BASE ≡ number.heap_base_at }
-    ensures heap_first_at { HEAP_FIRST ≡ number.heap_first_at }
-    ensures heap_spare_at { HEAP_SPARE ≡ number.heap_spare_at }
-{}
-
-/// A place in the entry's code has the numbers of the layout.
-pub fn code_places()
-    ensures leave_at { LEAVE ≡ number.leave_at }
-    ensures work_at { WORK ≡ number.work_at }
-    ensures tested_read_byte_at { TESTED_READ_BYTE ≡ number.tested_read_byte_at }
-    ensures tested_write_byte_at { TESTED_WRITE_BYTE ≡ number.tested_write_byte_at }
-    ensures tested_read_word_at { TESTED_READ_WORD ≡ number.tested_read_word_at }
-    ensures tested_write_word_at { TESTED_WRITE_WORD ≡ number.tested_write_word_at }
-{}
-
 /// The blocks of each table fit its range, and the work area the kernel's stack. The places in the entry's code lie in its range, one behind the other, the last four with room for 40 words each.
 pub fn blocks_fit()
     ensures threads { THREADS.from + THREAD_BLOCKS * THREAD_SIZE ≤ THREADS.to }
@@ -306,6 +222,6 @@ pub fn blocks_fit()
     ensures heap { HEAP_TABLE.from + HEAP_ENTRIES * HEAP_ENTRY_SIZE ≤ HEAP_TABLE.to }
     ensures files { FILES.from + FILE_BLOCKS * FILE_SIZE ≤ FILES.to }
     ensures work_area { (STACK.from ≡ WORK_AREA) × (WORK_AREA + FRAME_SIZE ≤ STACK.to) }
-    ensures joins { (ENTRY_CODE.from < LEAVE) × (LEAVE < WORK) × (WORK < TESTED_READ_BYTE) }
+    ensures joins { (ENTRY_CODE.from < LEAVE) × (LEAVE < WAIT) × (WAIT < WORK) × (WORK < BAD_POINTER) × (BAD_POINTER < BAD_THREAD) × (BAD_THREAD < DEEP) × (DEEP < TESTED_READ_BYTE) }
     ensures tested { (TESTED_READ_BYTE + 160 ≤ TESTED_WRITE_BYTE) × (TESTED_WRITE_BYTE + 160 ≤ TESTED_READ_WORD) × (TESTED_READ_WORD + 160 ≤ TESTED_WRITE_WORD) × (TESTED_WRITE_WORD + 160 ≤ ENTRY_CODE.to) }
 {}

@@ -1,6 +1,6 @@
 //! The ranges of the kernel's 64 KB, by physical addresses. The code runs in the cached segment, 80000000h above them.
+//! That the gates, the tables and the control blocks stand there is after PSX-SPX, Kernel (BIOS); the layout is this project's own.
 ghost use Rattle.std.specs.Prelude.{◌≡◌, ℕ, ◌<◌, ◌≤◌, IsTrue};
-ghost use Rattle.kern_layout.specs.Ranges as layout;
 ghost use Rattle.kern_layout.specs.Ranges.{RangesApart, RangesBelowUser};
 ghost use Rattle.kern_layout.specs.declared.ranges.TheConstants.{RANGES};
 
@@ -212,39 +212,6 @@ pub const RANGES: [Range; 28] = [
     VARIABLES,
     STACK,
 ];
-
-/// Each range is that of the layout.
-pub fn ranges()
-    ensures vector { VECTOR ≡ layout.vector_range }
-    ensures gate_a { GATE_A ≡ layout.gate_a_range }
-    ensures gate_b { GATE_B ≡ layout.gate_b_range }
-    ensures gate_c { GATE_C ≡ layout.gate_c_range }
-    ensures gate_done { GATE_DONE ≡ layout.gate_done_range }
-    ensures gate_back { GATE_BACK ≡ layout.gate_back_range }
-    ensures table_a { TABLE_A ≡ layout.table_a_range }
-    ensures table_c { TABLE_C ≡ layout.table_c_range }
-    ensures table_b { TABLE_B ≡ layout.table_b_range }
-    ensures entry_code { ENTRY_CODE ≡ layout.entry_code_range }
-    ensures thread_code { THREAD_CODE ≡ layout.thread_code_range }
-    ensures event_code { EVENT_CODE ≡ layout.event_code_range }
-    ensures timer_code { TIMER_CODE ≡ layout.timer_code_range }
-    ensures memory_code { MEMORY_CODE ≡ layout.memory_code_range }
-    ensures text_code { TEXT_CODE ≡ layout.text_code_range }
-    ensures printf_code { PRINTF_CODE ≡ layout.printf_code_range }
-    ensures heap_code { HEAP_CODE ≡ layout.heap_code_range }
-    ensures file_code { FILE_CODE ≡ layout.file_code_range }
-    ensures card_code { CARD_CODE ≡ layout.card_code_range }
-    ensures threads { THREADS ≡ layout.threads_range }
-    ensures events { EVENTS ≡ layout.events_range }
-    ensures frames { FRAMES ≡ layout.frames_range }
-    ensures chains { CHAINS ≡ layout.chains_range }
-    ensures heap_table { HEAP_TABLE ≡ layout.heap_table_range }
-    ensures files { FILES ≡ layout.files_range }
-    ensures line { LINE ≡ layout.line_range }
-    ensures variables { VARIABLES ≡ layout.variables_range }
-    ensures stack { STACK ≡ layout.stack_range }
-    ensures all { RANGES ≡ layout.layout }
-{}
 
 /// No two ranges have a byte in common, and no range has a byte of user memory.
 pub fn ranges_apart()

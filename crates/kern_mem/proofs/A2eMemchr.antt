@@ -78,8 +78,7 @@ module _ (C : Calls) (know : KnowsRoom ROOM C) (stay : Stay) (s : KernelState) (
                   let lf = left_is stay _ _ (h.most + 128) (ap (λ b. if b then answered s x else find_byte (k - 1) s (following x) c) (eq-eqb v c (sym is ∙ eq ∙ h.r5))) l in
                   leaves stay (answered s x) (h.most + 128) s _ lf h.quiet (ap (answered s) (sym g.back)) there (omega arith),
               λ nf.
-                  let ln = left_is stay _ _ (h.most + 128) (ap (λ b. if b then answered s x else find_byte (k - 1) s (following x) c) (ne_eqb v c (λ q. nf (is ∙ q ∙ sym h.r5)))) l in
-                  (
+                  let ln = left_is stay _ _ (h.most + 128) (ap (λ b. if b then answered s x else find_byte (k - 1) s (following x) c) (ne_eqb v c (λ q. nf (is ∙ q ∙ sym h.r5)))) l in (
                     k - 1,
                     g.less,
                     record { most = h.most + 128; left = ln; within = omega arith; bytes = h.bytes; quiet = h.quiet; r5 = h.r5; r10 = h.r10; r11 = h.r11; cursor = g.next },

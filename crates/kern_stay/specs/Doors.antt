@@ -13,7 +13,7 @@ use Rattle.psx_flow.specs.Told.{ports}
 use Rattle.psx_flow.specs.Kernel.{kernel_words}
 use Rattle.psx_flow.specs.Reaches.{IsPlaced, ArePlaced}
 use Rattle.psx_flow.specs.Meets.{Goal, Meets, calls}
-use Rattle.kern_layout.specs.Numbers.{work_area}
+use Rattle.kern_layout.specs.declared.places.TheConstants.{WORK_AREA}
 use Rattle.kern_layout.specs.Fields.{Block}
 use Rattle.kern_layout.specs.Contexts.{saved}
 use Rattle.kern_layout.specs.Tasks.{TasksAt}
@@ -30,7 +30,7 @@ use Rattle.kern_stay.specs.Shared.{tested_there}
 -- While the kernel runs, a memory stands for a state: the work area holds the running context, the tables and variables are the state's, and so is user memory.
 pub record Holds (s : KernelState) (m : Memory) : Type 0 where
   pub settled : s.running.context.pending ≡ None
-  pub area : Block (word m) work_area (saved s.running)
+  pub area : Block (word m) WORK_AREA (saved s.running)
   pub reads : Reads s (word m) (byte m)
   pub user : SameUser m s.memory
 
@@ -75,7 +75,7 @@ pub record Works (rest : Stay) (e : Run) : Type 0 where
   pub tasks : List Task
   pub is : IsWork state context tasks e.regs.r2 e.regs.r31 rest
   pub holds : Holds (record state { running = context }) e.bytes
-  pub there : TasksAt (word e.bytes) work_area tasks
+  pub there : TasksAt (word e.bytes) WORK_AREA tasks
 
 -- What is left at WORK is no end yet, so this door stands beside those of an end.
 abbrev pub AtWork : Stay → (most to : ℕ) → Goal

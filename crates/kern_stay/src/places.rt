@@ -1,7 +1,8 @@
 //! Where a routine's words end, and the listings that it may call, in the cached segment, in which the kernel runs.
 use kern_layout::places::{
+    BAD_POINTER as BAD_POINTER_PLACE, BAD_THREAD as BAD_THREAD_PLACE, DEEP as DEEP_PLACE,
     LEAVE as LEAVE_PLACE, TESTED_READ_BYTE, TESTED_READ_WORD, TESTED_WRITE_BYTE, TESTED_WRITE_WORD,
-    WORK as WORK_PLACE,
+    WAIT as WAIT_PLACE, WORK as WORK_PLACE,
 };
 
 /// The first address of the cached segment.
@@ -11,19 +12,19 @@ pub const CACHED: u32 = 0x8000_0000;
 pub const LEAVE: u32 = CACHED + LEAVE_PLACE;
 
 /// Where a call arrives that waits: the context of the work area is taken up as it is.
-pub const WAIT: u32 = LEAVE + 0x80;
+pub const WAIT: u32 = CACHED + WAIT_PLACE;
 
 /// Where a stay arrives with tasks to do, before the context of the work area is taken up.
 pub const WORK: u32 = CACHED + WORK_PLACE;
 
 /// Where a routine arrives with an address in r8 that isn't user memory.
-pub const BAD_POINTER: u32 = WORK + 0x200;
+pub const BAD_POINTER: u32 = CACHED + BAD_POINTER_PLACE;
 
 /// Where a routine arrives with a handle in r8 that names no thread.
-pub const BAD_THREAD: u32 = BAD_POINTER + 0x20;
+pub const BAD_THREAD: u32 = CACHED + BAD_THREAD_PLACE;
 
 /// Where a stay arrives that needs a frame more than there is room for, with the address of its caller in r31.
-pub const DEEP: u32 = BAD_POINTER + 0x40;
+pub const DEEP: u32 = CACHED + DEEP_PLACE;
 
 /// The listing that reads a byte of user memory.
 pub const READ_BYTE: u32 = CACHED + TESTED_READ_BYTE;

@@ -72,8 +72,7 @@ module _ (C : Calls) (know : KnowsRoom ROOM C) (stay : Stay) (s : KernelState) (
                   let lf = left_is stay _ _ (h.most + 128) (ap (λ b. if b then answered s h.count else count_bytes (h.fuel - 1) s (following x) (h.count + 1)) (eq-eqb v 0 (sym is ∙ z))) l in
                   leaves stay (answered s h.count) (h.most + 128) s _ lf h.quiet (ap (answered s) (omega (arith, g.back, h.counted, h.r4, span.within, h.cursor.high))) there (omega arith),
               λ nz.
-                  let ln = left_is stay _ _ (h.most + 128) (ap (λ b. if b then answered s h.count else count_bytes (h.fuel - 1) s (following x) (h.count + 1)) (ne_eqb v 0 (λ q. nz (is ∙ q)))) l in
-                  (
+                  let ln = left_is stay _ _ (h.most + 128) (ap (λ b. if b then answered s h.count else count_bytes (h.fuel - 1) s (following x) (h.count + 1)) (ne_eqb v 0 (λ q. nz (is ∙ q)))) l in (
                     k - 1,
                     g.less,
                     record {

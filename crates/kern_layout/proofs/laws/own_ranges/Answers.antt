@@ -1,5 +1,5 @@
 use Rattle.std.proofs.Common.{length}
-use Rattle.kern_layout.proofs.Kept as kept
+use Rattle.kern_layout.proofs.ReadingsKept as kept
 use Rattle.kern_layout.proofs.Written.{reads_free}
 use Rattle.kern_layout.proofs.laws.own_ranges.Goals as goal
 
