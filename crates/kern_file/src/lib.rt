@@ -5,5 +5,7 @@ pub mod a3c_putchar;
 pub mod a3e_puts;
 pub mod places;
 pub mod placing;
+#[cfg(test)]
+mod tests;
 
 pub use placing::place;

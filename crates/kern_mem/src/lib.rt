@@ -8,5 +8,7 @@ pub mod a2f_rand;
 pub mod a30_srand;
 pub mod places;
 pub mod placing;
+#[cfg(test)]
+mod tests;
 
 pub use placing::place;

@@ -4,5 +4,7 @@
 pub mod a1b_strlen;
 pub mod places;
 pub mod placing;
+#[cfg(test)]
+mod tests;
 
 pub use placing::place;

@@ -1,0 +1,44 @@
+//! Words of the block behind `place`, encoded by hand from the R3000A manual's instruction formats.
+use crate::a2a_memcpy::memcpy;
+use crate::a2b_memset::memset;
+use crate::a2e_memchr::memchr;
+use crate::a2f_rand::rand;
+use crate::a30_srand::srand;
+use crate::place;
+use crate::placing::{apart, mem_serves};
+use kern_layout::KernelBlock;
+use std::test::Fail;
+
+#[test]
+fn places_the_calls(rt: HostRuntime) -> Result<(), Fail> {
+    let mut block = KernelBlock::new(rt.alloc())?;
+    place(&mut block);
+    // memset: bne a0, zero, 80003C14h.
+    assert_eq!(rt; block.word(0x3C00), 0x1480_0004);
+    // srand: lui t0, 8001h; sw a0, EA14h(t0).
+    assert_eq!(rt; block.word(0x3D80), 0x3C08_8001);
+    assert_eq!(rt; block.word(0x3D84), 0xAD04_EA14);
+    // The count of user memory: lui t2, 8001h.
+    assert_eq!(rt; block.word(0x3DC0), 0x3C0A_8001);
+    // memcpy: bne a0, zero, 80003E94h; in its loop lbu t4, 0(t0); addiu t0, t0, 1; sb t4, 0(t1).
+    assert_eq!(rt; block.word(0x3E80), 0x1480_0004);
+    assert_eq!(rt; block.word(0x3F08), 0x910C_0000);
+    assert_eq!(rt; block.word(0x3F0C), 0x2508_0001);
+    assert_eq!(rt; block.word(0x3F10), 0xA12C_0000);
+    Ok(())
+}
+
+#[test]
+fn lends_listings(rt: HostRuntime) {
+    assert_eq!(rt; memcpy().len(), 41);
+    assert_eq!(rt; memset().len(), 24);
+    assert_eq!(rt; memchr().len(), 30);
+    assert_eq!(rt; rand().len(), 11);
+    assert_eq!(rt; srand().len(), 4);
+}
+
+#[test]
+fn laws_do_nothing() {
+    apart();
+    mem_serves();
+}
