@@ -1,6 +1,6 @@
 -- That the kernel's words have made a stay of the written kernel machine: by the accesses that they made, and the step that comes.
 use Rattle.std.specs.Prelude.{◌≡◌, ◌⊎◌, ℕ, ◌<◌, ◌≤◌, false, cond, nat_eq, List, [], ◌∷◌, Some}
-use Rattle.psx_base.specs.declared.ports.TheConstants.{HALT, HALT_A, HALT_B, HALT_C}
+use Rattle.psx_base.specs.Ports.{HALT, HALT_A, HALT_B, HALT_C}
 use Rattle.psx_base.specs.Memory.{Memory, byte}
 use Rattle.psx_base.specs.KernelState.{KernelState}
 use Rattle.psx_cpu.specs.Processor.{Core, Bus}

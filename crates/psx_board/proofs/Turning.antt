@@ -1,4 +1,4 @@
--- What the code's step tells and leaves is the machine's turn.
+-- What the code's step answers and leaves is the machine's turn.
 use Rattle.std.proofs.Common.{◌≡◌, ℕ, ◌+◌, ◌%◌, ◌^◌, Bool, true, false, List, [], ◌∷◌, Option, Some, None, refl, sym, ap, subst, ◌∙◌}
 use Rattle.std.specs.Prelude.{nat_eq, if◌then◌else◌}
 use Rattle.psx_base.specs.Ports.{CONSOLE_DATA, HALT, HALT_A, HALT_B, HALT_C}
@@ -17,7 +17,7 @@ use Rattle.psx_board.specs.Machine.{Machine}
 use Rattle.psx_board.specs.Delivery.{due, delivered}
 use Rattle.psx_board.specs.Turn.{Turn, after_write, accessed, moved, by_move, shown, asked, answered, bus_of, stepped, turn}
 use Rattle.psx_board.specs.Entries.{entry, return}
-use Rattle.psx_board.specs.Told.{told, told_move, told_stepped, told_write}
+use Rattle.psx_board.specs.StepDid.{step_did, move_did, stepped_did, write_did}
 use Rattle.psx_board.specs.Devices.{KeptDevices, Carries}
 use Rattle.psx_board.specs.Finished.{Counted, Wrote, Finished, after_read, stop_of}
 use Rattle.psx_board.specs.Stands.{View, Stands, Turned, TurnedBy, console_bytes}
@@ -47,23 +47,23 @@ console : (h : History) (at value : ℕ) → tty_of (written h at value) ≡ con
 console h at value =
     first (nat_eq at CONSOLE_DATA) (value % 2 ^ 8) _ (halt-silent (nat_eq at HALT) (halt_stop value (last_written h.events HALT_A) (last_written h.events HALT_B) (last_written h.events HALT_C)))
 
--- ---- what is told
+-- ---- what a step did
 
-write_tells : (h : History) (waiting : List Entry) (at value : ℕ) (port : PortDid) (did : Did) (new : KeptDevices) → Wrote h waiting at value port did new → did ≡ told_write at value port
-write_tells h waiting at value Quiet did new w = w.0
-write_tells h waiting at value (Tty byte) did new w = w.0
-write_tells h waiting at value (Halt stop) did new w = w.0
+write_answered : (h : History) (waiting : List Entry) (at value : ℕ) (port : PortDid) (did : Did) (new : KeptDevices) → Wrote h waiting at value port did new → did ≡ write_did at value port
+write_answered h waiting at value Quiet did new w = w.0
+write_answered h waiting at value (Tty byte) did new w = w.0
+write_answered h waiting at value (Halt stop) did new w = w.0
 
-tells : (h : History) (waiting : List Entry) (old : Core) (move : Move) (did result : Did) (next : Core) (new : KeptDevices)
-    → Does old move did next → Finished (after_read h (port_read move)) waiting did result new → result ≡ told_move h move
-tells h waiting old (Goes k) Plain result next new does f = f.0
-tells h waiting old (Reads k at value) (PortRead at' value') result next new does f = f.0 ∙ (λ i. PortRead (does.1.0 i) (does.1.1 i))
-tells h waiting old (Enters k code) (Entered code') result next new does f = f.0 ∙ ap Entered does.1
-tells h waiting old (Leaves k) Left result next new does f = f.0
-tells h waiting old (Writes k at value) (PortWrite at' value') result next new does f =
-    write_tells h waiting at' value' (written h at' value') result new f ∙ (λ i. told_write (does.1.0 i) (does.1.1 i) (written h (does.1.0 i) (does.1.1 i)))
-tells h waiting old (Stops stop) (Stopped stop') result next new does f = f.0 ∙ ap Stopped does.1
-tells h waiting old _ _ result next new does f = absurd does
+answers : (h : History) (waiting : List Entry) (old : Core) (move : Move) (did result : Did) (next : Core) (new : KeptDevices)
+    → Does old move did next → Finished (after_read h (port_read move)) waiting did result new → result ≡ move_did h move
+answers h waiting old (Goes k) Plain result next new does f = f.0
+answers h waiting old (Reads k at value) (PortRead at' value') result next new does f = f.0 ∙ (λ i. PortRead (does.1.0 i) (does.1.1 i))
+answers h waiting old (Enters k code) (Entered code') result next new does f = f.0 ∙ ap Entered does.1
+answers h waiting old (Leaves k) Left result next new does f = f.0
+answers h waiting old (Writes k at value) (PortWrite at' value') result next new does f =
+    write_answered h waiting at' value' (written h at' value') result new f ∙ (λ i. write_did (does.1.0 i) (does.1.1 i) (written h (does.1.0 i) (does.1.1 i)))
+answers h waiting old (Stops stop) (Stopped stop') result next new does f = f.0 ∙ ap Stopped does.1
+answers h waiting old _ _ result next new does f = absurd does
 
 -- ---- a step, by what the processor did
 
@@ -140,14 +140,14 @@ as_turn : (m : Machine) (told : Did) (new : View) → TurnedBy m.began (line (de
 unfolding turn
 as_turn m told new t = subst (λ (n : ℕ). TurnedBy m.began (line (delivered m).history) n (stepped (delivered m)) told new) (all_arrived-now m.history (due m.history.now m.waiting)) t
 
-as_told : (m : Machine) (result : Did) → result ≡ told_stepped (delivered m) → result ≡ told m
-unfolding told
-as_told m result is = is
+as_did : (m : Machine) (result : Did) → result ≡ stepped_did (delivered m) → result ≡ step_did m
+unfolding step_did
+as_did m result is = is
 
--- the code's step, from its parts: what it leaves, and what it tells
+-- the code's step, from its parts: what it leaves, and what it did
 pub turned-step : (m : Machine) (new : View) (k : Core) (l : Bool) (value : ℕ) (did result : Did) → k ≡ m.core → l ≡ line (delivered m).history → value ≡ answered (delivered m).history (asked (delivered m))
     → Does k (step k (record { line = l; value = value })) did new.core → port_read (step m.core (bus_of (delivered m))) ≡ asked (delivered m)
-    → Finished (after_read (delivered m).history (asked (delivered m))) (delivered m).waiting did result new.devices → new.taken ≡ new.devices.count → new.stopped ≡ stop_of result → Turned m (turn m) result new × (result ≡ told m)
+    → Finished (after_read (delivered m).history (asked (delivered m))) (delivered m).waiting did result new.devices → new.taken ≡ new.devices.count → new.stopped ≡ stop_of result → Turned m (turn m) result new × (result ≡ step_did m)
 turned-step m new k l value did result core is_line answer does reads f taken stopped =
     let d = delivered m in
     let bus : (record { line = l; value = value }) ≡ bus_of d = (λ i. record { line = is_line i; value = answer i }) in
@@ -155,5 +155,5 @@ turned-step m new k l value did result core is_line answer does reads f taken st
     let by_core : Does m.core (step m.core (bus_of d)) did new.core = subst (λ (x : Core). Does x (step x (bus_of d)) did new.core) core by_bus in
     let finished : Finished (after_read d.history (port_read (step m.core (bus_of d)))) d.waiting did result new.devices = subst (λ (o : Option ℕ). Finished (after_read d.history o) d.waiting did result new.devices) (sym reads) f in (
       as_turn m result new (turned d new taken (step m.core (bus_of d)) did result by_core stopped (again m new taken) finished),
-      as_told m result (tells d.history d.waiting m.core (step m.core (bus_of d)) did result new.core new.devices by_core finished),
+      as_did m result (answers d.history d.waiting m.core (step m.core (bus_of d)) did result new.core new.devices by_core finished),
     )

@@ -2,7 +2,7 @@ pub mod Machine
 pub mod Delivery
 pub mod Entries
 pub mod Turn
-pub mod Told
+pub mod StepDid
 pub mod Run
 pub mod Devices
 pub mod Finished

@@ -15,7 +15,7 @@ ghost use Rattle.psx_ports.specs.History.{written};
 ghost use Rattle.psx_board.specs.Machine.{Machine, start};
 ghost use Rattle.psx_board.specs.Delivery;
 ghost use Rattle.psx_board.specs.Turn.{turn, asked, answered};
-ghost use Rattle.psx_board.specs.Told.{told};
+ghost use Rattle.psx_board.specs.StepDid.{step_did};
 ghost use Rattle.psx_board.specs.Devices.{Carries};
 ghost use Rattle.psx_board.specs.Finished.{Counted, Wrote, Finished, finished, after_read, stop_of};
 ghost use Rattle.psx_board.specs.Stands.{Stands, Turned, WentOn};
@@ -267,7 +267,7 @@ impl Board {
         requires running { self.old.stopped ≡ None }
         requires room { self.old.taken < 2 ^ 64 - 1 }
         ensures turns { (m : Machine) → Stands self.old m → Turned m (turn m) result self.new }
-        ensures told { (m : Machine) → Stands self.old m → result ≡ told m }
+        ensures did { (m : Machine) → Stands self.old m → result ≡ step_did m }
         ensures after { (calls : ℕ) (m : Machine) → StandsAfter self.old calls m → StandsAfter self.new (calls + 1) m }
         ensures counted { self.new.taken ≤ self.old.taken + 1 }
         ensures went { WentOn result → self.new.taken ≡ self.old.taken + 1 }

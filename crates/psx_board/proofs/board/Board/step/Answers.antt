@@ -3,7 +3,7 @@ use Rattle.psx_cpu.specs.Views.{core_of}
 use Rattle.psx_board.specs.Delivery.{delivered}
 use Rattle.psx_board.specs.Machine.{Machine}
 use Rattle.psx_board.specs.Turn.{asked, answered, turn}
-use Rattle.psx_board.specs.Told.{told}
+use Rattle.psx_board.specs.StepDid.{step_did}
 use Rattle.psx_board.specs.Stands.{View, Stands, Turned}
 use Rattle.psx_board.specs.Finished.{finished}
 use Rattle.psx_board.proofs.Kernel.{step-counts}
@@ -15,8 +15,8 @@ use Rattle.psx_board.proofs.board.Board.step.Goals as goal
 abbrev view : goal.After-keep → View
 view c = record { core = core_of c.step-did.new.self c.step-did.new.ram; devices = c.finish-did.new.devices; taken = c.finish-did.new.devices.count; stopped = c.keep.new.stopped }
 
--- what it leaves, and what it tells
-made : (c : goal.After-keep) (m : Machine) → Stands c.args.self.now m → Turned m (turn m) c.finish-did.result (view c) × (c.finish-did.result ≡ told m)
+-- what it leaves, and what it did
+made : (c : goal.After-keep) (m : Machine) → Stands c.args.self.now m → Turned m (turn m) c.finish-did.result (view c) × (c.finish-did.result ≡ step_did m)
 made c m s =
     let now = rw (← c.self.view_is) at s in
     let d = delivered m in
@@ -28,8 +28,8 @@ made c m s =
 pub returns-clause-turns : goal.returns-clause-turns
 returns-clause-turns c m s = (made c m s).0
 
-pub returns-clause-told : goal.returns-clause-told
-returns-clause-told c m s = (made c m s).1
+pub returns-clause-did : goal.returns-clause-did
+returns-clause-did c m s = (made c m s).1
 
 pub returns-clause-after : goal.returns-clause-after
 returns-clause-after c calls m a = one_more_step calls m c.args.self.now (view c) c.finish-did.result a c.requires.running (returns-clause-turns c)
