@@ -12,7 +12,7 @@ use Rattle.psx_asm.specs.Operands.{Known, Plain}
 use Rattle.psx_asm.specs.Instructions.{branch_to, jump_to}
 use Rattle.psx_asm.specs.Statement.{Statement, Alone, Branches, Jumps, Values, Org}
 use Rattle.psx_asm.specs.Directives.{of_org}
-use Rattle.psx_asm.specs.Line.{Line, ◌>>=◌, statement_of, split_label, checked_label, checked_name, line_after, after, named, width_of}
+use Rattle.psx_asm.specs.Line.{Line, ◌>>=◌, statement_of, split_label, checked_label, checked_name, line_after, after, width_of}
 use Rattle.psx_asm.specs.Encoding.{aligned, bytes_of, code_of, fitting, branch_bits, jump_bits, of_branch, of_jump, encoded}
 
 -- a line without a label
@@ -33,13 +33,6 @@ word_after at (Branches ins v) is = refl
 word_after at (Jumps ins v) is = refl
 word_after at (Values width vs) is = λ i. (at + width_of (is.0 i) * is.1 i) % 2 ^ 32
 word_after at _ is = absurd is
-
-pub word_unnamed : (s : Statement) (w : List ℕ) → PlacesWord s → named s w ≡ None
-word_unnamed (Alone ins) w is = refl
-word_unnamed (Branches ins v) w is = refl
-word_unnamed (Jumps ins v) w is = refl
-word_unnamed (Values width vs) w is = refl
-word_unnamed _ w is = absurd is
 
 word_checked : (known : Known) (line : Line) (s : Statement) → PlacesWord s → checked_name known line s ≡ Ok line
 word_checked known line (Alone ins) is = refl

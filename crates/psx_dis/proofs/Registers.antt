@@ -4,7 +4,7 @@ use Rattle.std.specs.Fmt.{digits}
 use Rattle.std.proofs.lemmas.Bool.{cond-true, cond-false, lt-ltb, le-ltb, cases_lt, eqb-true, false≢true, agree_below_at}
 use Rattle.psx_ins.specs.declared.reg.Reg.{Reg}
 use Rattle.psx_ins.specs.Forms.{reg}
-use Rattle.psx_asm.specs.Numbers.{low_word, below, signed_16}
+use Rattle.psx_asm.specs.Numbers.{below, signed_16}
 use Rattle.psx_asm.specs.Operands.{register_of}
 use Rattle.psx_dis.specs.Printed.{register_text}
 use Rattle.psx_dis.proofs.SpelledLines.{signed}
@@ -34,5 +34,3 @@ signed_reads imm small = ⊎_elim
     (λ high. ap signed_16 (cond-false (nat_lt imm (2 ^ 15)) (pos imm) (neg_ℤ (pos (2 ^ 16 - imm))) (le-ltb imm (2 ^ 15) high)) ∙ minus_16 (2 ^ 16 - imm) (omega arith) (omega arith) ∙ ap Some (omega arith))
     (cases_lt imm (2 ^ 15))
 
-pub low_word_reads : (n : ℕ) → n < 2 ^ 32 → low_word (pos n) ≡ n
-low_word_reads n small = omega arith

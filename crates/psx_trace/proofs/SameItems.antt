@@ -1,5 +1,5 @@
 -- A text is the lines of one list of items at most.
-use Rattle.std.proofs.Common.{◌≡◌, ◌≢◌, ℕ, suc, List, [], ◌∷◌, ◌++◌, All, get_or, refl, sym, ap, ◌∙◌, append_assoc, append-nil, arith}
+use Rattle.std.proofs.Common.{◌≡◌, ◌≢◌, ℕ, suc, List, [], ◌∷◌, ◌++◌, All, refl, sym, ap, ◌∙◌, append_assoc, append-nil, arith}
 use Rattle.std.proofs.lemmas.List.{append_cancel_left}
 use Rattle.psx_trace.specs.declared.item.Item.{Item}
 use Rattle.psx_trace.specs.declared.item.Item.TheVariants.{B, E, R, W, X, S}
@@ -7,9 +7,6 @@ use Rattle.psx_trace.specs.Line.{item_text, line}
 use Rattle.psx_trace.specs.Plain.{item_of}
 use Rattle.psx_trace.specs.Reading.{IsItem, IsTraceOf, IsFirstBad, BeginsWithNone, lines_of}
 use Rattle.psx_trace.proofs.ItemReading.{same_item}
-
-abbrev starts : Item → ℕ
-starts item = get_or (line (item_of item)) 0 0
 
 -- a line isn't empty
 line_some : (item : Item) (rest : List ℕ) → line (item_of item) ++ rest ≡ [] → ⊥
