@@ -8,8 +8,8 @@ psxk=${PSXK:-$examples/../crates/psxk/out/psxk}
 budget=2000000
 
 if [ ! -x "$psxk" ]; then
-    echo "examples: skipped, since crates/psxk/out/psxk isn't built"
-    exit 0
+    echo "examples: none was tried, since $psxk isn't built"
+    exit 1
 fi
 psxk=$(realpath "$psxk")
 room=$(mktemp -d)

@@ -4,19 +4,7 @@
 
 mod file_host;
 #[cfg(test)]
-mod inputs;
-#[cfg(test)]
-mod made;
-#[cfg(test)]
-mod programs;
-#[cfg(test)]
-mod refusals;
-#[cfg(test)]
-mod runs;
-#[cfg(test)]
-mod saved;
-#[cfg(test)]
-mod tests;
+mod file_host_tests;
 
 use file_host::FileHost;
 use psx_base::{Host, Out};

@@ -1,4 +1,4 @@
-//! Programs and hosts for the tests of whole runs.
+//! Programs and hosts in memory for the tests of the top call.
 use psx_base::MemoryHost;
 use std::process::Abort;
 
@@ -22,13 +22,19 @@ pub(crate) fn program<R: AllocGlobal + Abort>(rt: &R, words: &[u32]) -> Vec<u8> 
     file
 }
 
-// A host that holds the file `a.exe`.
-pub(crate) fn host_with<R: AllocGlobal + Abort>(rt: &R, file: &[u8]) -> MemoryHost {
+// A host that holds one file.
+pub(crate) fn host_with<R: AllocGlobal + Abort>(rt: &R, name: &str, file: &[u8]) -> MemoryHost {
     let mut host = MemoryHost::new(rt.alloc(), ROOM).expect(rt, "room");
-    host.put("a.exe", file).expect(rt, "put");
+    host.put(name, file).expect(rt, "put");
     host
 }
 
+// A host that holds the program `a.exe`.
+pub(crate) fn host_of<R: AllocGlobal + Abort>(rt: &R, file: &[u8]) -> MemoryHost {
+    host_with(rt, "a.exe", file)
+}
+
+// The words that run it.
 pub(crate) const RUN: [&str; 4] = ["run", "a.exe", "-", "2000000"];
 
 // `A3C(41h)`, then `A06(0)`.
@@ -44,6 +50,7 @@ pub(crate) const HELLO: [u32; 9] = [
     0,
 ];
 
+// The trace of its run.
 pub(crate) const HELLO_TRACE: &[u8] = b"B 38941
 E 38946 00000020 000000A0 A 0000003C
 X 39072 80010014 00000401 00000000 00000000 00000000 00000041 00000000 00000041 00000000 00000000 00000000 00000000 0000003C 000000A0 00000000 00000000 00000000 00000000 00000000 00000000 00000000 00000000 00000000 00000000 00000000 00000000 00000000 00000000 00000000 80010014 00000000 00000000 801FFF00 801FFF00 80010014

@@ -1,16 +1,16 @@
 //! What a call leaves of a program's registers, and what the SYSCALLs do with the interrupts' mask.
 ghost use Rattle.std.specs.Prelude.{◌<◌, length};
 
-use crate::programs::{RUN, host_with, program};
+use crate::hosts::{RUN, host_of, program};
 use psx_base::Out;
 use psxk_run::psxk;
 use std::process::Abort;
 
 // A program's trace has these bytes.
-fn shows<R: AllocGlobal + Abort>(rt: &R, words: &[u32], part: &[u8])
+fn trace_has<R: AllocGlobal + Abort>(rt: &R, words: &[u32], part: &[u8])
     requires { 0 < length part.now }
 {
-    let mut host = host_with(rt, &program(rt, words));
+    let mut host = host_of(rt, &program(rt, words));
     let _status = psxk(rt.alloc(), &RUN, &mut host);
     let trace = host.sent(Out::Trace);
     assert!(rt; trace.windows(part.len()).any(|window| window == part));
@@ -56,7 +56,7 @@ const VALUES: [u32; 34] = [
 
 #[test]
 fn keeps_the_registers_over_a_call(rt: HostRuntime) {
-    shows(
+    trace_has(
         &rt,
         &VALUES,
         b" 80010088 00000401 00007001 00007002 00000101 00000041 00000103 00000041 00000105 00000106 00000107 00000108 0000003C 000000A0 0000010B 0000010C 0000010D 0000010E 0000010F 00000110 00000111 00000112 00000113 00000114 00000115 00000116 00000117 00000118 00000119 80010088 00000000 0000011C 0000011D 0000011E 80010088\n",
@@ -74,15 +74,15 @@ fn turns_interrupts_off_once(rt: HostRuntime) {
         0x0000_000C,
         0x0000_000D,
     ];
-    shows(
+    trace_has(
         &rt,
         &words,
         b" 80010008 00000400 00000000 00000000 00000000 00000001 00000000 00000001 ",
     );
-    shows(
+    trace_has(
         &rt,
         &words,
         b" 8001000C 00000400 00000000 00000000 00000000 00000000 00000000 00000001 ",
     );
-    shows(&rt, &words, b" 80010014 00000401 ");
+    trace_has(&rt, &words, b" 80010014 00000401 ");
 }

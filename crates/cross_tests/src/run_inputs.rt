@@ -1,5 +1,5 @@
 //! Runs with a schedule and a configuration.
-use crate::programs::{HELLO, HELLO_TRACE, host_with, program};
+use crate::hosts::{HELLO, HELLO_TRACE, host_of, program};
 use psx_base::{MemoryHost, Out};
 use psxk_run::psxk;
 use std::process::Abort;
@@ -7,8 +7,8 @@ use std::process::Abort;
 const WORDS: [&str; 5] = ["run", "a.exe", "s", "2000000", "c"];
 
 // A host that holds a program, the schedule `s` and the configuration `c`.
-fn host_of<R: AllocGlobal + Abort>(rt: &R, schedule: &[u8], config: &[u8]) -> MemoryHost {
-    let mut host = host_with(rt, &program(rt, &HELLO));
+fn host_with_texts<R: AllocGlobal + Abort>(rt: &R, schedule: &[u8], config: &[u8]) -> MemoryHost {
+    let mut host = host_of(rt, &program(rt, &HELLO));
     host.put("s", schedule).expect(rt, "put");
     host.put("c", config).expect(rt, "put");
     host
@@ -22,7 +22,7 @@ fn answers<R: AllocGlobal + Abort>(
     status: u8,
     report: &[u8],
 ) {
-    let mut host = host_of(rt, schedule, config);
+    let mut host = host_with_texts(rt, schedule, config);
     assert_eq!(rt; psxk(rt.alloc(), &WORDS, &mut host), status, "{report:?}");
     assert_eq!(rt; host.sent(Out::Report), report);
     assert_eq!(rt; host.sent(Out::Trace).is_empty(), status != 0);
@@ -30,7 +30,7 @@ fn answers<R: AllocGlobal + Abort>(
 
 #[test]
 fn runs_with_both(rt: HostRuntime) {
-    let mut host = host_of(&rt, b"5 byte 0A\n7 line 0\n", b"TCB = 6\r\nEVENT = 20\r\n");
+    let mut host = host_with_texts(&rt, b"5 byte 0A\n7 line 0\n", b"TCB = 6\r\nEVENT = 20\r\n");
     assert_eq!(rt; psxk(rt.alloc(), &WORDS, &mut host), 0);
     assert_eq!(rt; host.sent(Out::Tty), b"A".as_slice());
     assert_eq!(rt; host.sent(Out::Trace), HELLO_TRACE);
@@ -59,12 +59,12 @@ fn names_what_is_not_read(rt: HostRuntime) {
         (2, b"psxk: read s\n"),
         (3, b"psxk: read c\n"),
     ] {
-        let mut host = host_of(&rt, b"", b"");
+        let mut host = host_with_texts(&rt, b"", b"");
         host.fail_load(load).expect(&rt, "room");
         assert_eq!(rt; psxk(rt.alloc(), &WORDS, &mut host), 5);
         assert_eq!(rt; host.sent(Out::Report), report);
     }
-    let mut host = host_of(&rt, b"", b"");
+    let mut host = host_with_texts(&rt, b"", b"");
     host.put("a.exe", b"").expect(&rt, "put");
     host.fail_load(2).expect(&rt, "room");
     assert_eq!(rt; psxk(rt.alloc(), &WORDS, &mut host), 3);

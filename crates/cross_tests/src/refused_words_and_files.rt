@@ -1,5 +1,5 @@
 //! Words, files and hosts that a run isn't made or told with.
-use crate::programs::{HELLO, HELLO_TRACE, RUN, host_with, program};
+use crate::hosts::{HELLO, HELLO_TRACE, RUN, host_of, program};
 use psx_base::{MemoryHost, NoFailHost, Out};
 use psxk_run::psxk;
 use std::process::Abort;
@@ -20,7 +20,7 @@ fn knows_its_words(rt: HostRuntime) {
         &["gen", "0"],
         &["gen", "1001"],
     ] {
-        let mut host = host_with(&rt, &program(&rt, &HELLO));
+        let mut host = host_of(&rt, &program(&rt, &HELLO));
         assert_eq!(rt; psxk(rt.alloc(), words, &mut host), 2);
         assert_eq!(rt; host.sent(Out::Report), usage);
         assert_eq!(rt; host.sent(Out::Trace), b"".as_slice());
@@ -29,7 +29,7 @@ fn knows_its_words(rt: HostRuntime) {
 
 // A file that is no program, and the end of its report.
 fn refuses<R: AllocGlobal + Abort>(rt: &R, file: &[u8], report: &[u8]) {
-    let mut host = host_with(rt, file);
+    let mut host = host_of(rt, file);
     assert_eq!(rt; psxk(rt.alloc(), &RUN, &mut host), 3, "{report:?}");
     assert_eq!(rt; host.sent(Out::Report), report);
     assert_eq!(rt; host.sent(Out::Trace), b"".as_slice());
@@ -74,7 +74,7 @@ fn refuses_a_header_by_its_first_fault(rt: HostRuntime) {
 #[test]
 fn names_a_host_that_fails(rt: HostRuntime) {
     let hello = program(&rt, &HELLO);
-    let mut host = host_with(&rt, &hello);
+    let mut host = host_of(&rt, &hello);
     host.fail_load(1).expect(&rt, "room");
     assert_eq!(rt; psxk(rt.alloc(), &RUN, &mut host), 5);
     assert_eq!(rt; host.sent(Out::Report), b"psxk: read a.exe\n".as_slice());
@@ -97,7 +97,7 @@ fn each_send_may_fail(rt: HostRuntime) {
     let hello = program(&rt, &HELLO);
     for call in 1..6u64 {
         for after in 0..2usize {
-            let mut host = host_with(&rt, &hello);
+            let mut host = host_of(&rt, &hello);
             host.fail_send(call, after).expect(&rt, "room");
             host.fail_load(2).expect(&rt, "room");
             let status = psxk(rt.alloc(), &RUN, &mut host);

@@ -1,5 +1,5 @@
 //! The commands that send one text: the ROM, the printed words of a program, and the program of an assembly text.
-use crate::programs::{HELLO, ROOM, RUN, host_with, program};
+use crate::hosts::{HELLO, ROOM, RUN, host_of, host_with, program};
 use psx_base::{MemoryHost, Out};
 use psxk_run::psxk;
 use std::process::Abort;
@@ -22,7 +22,7 @@ fn sends_the_image(rt: HostRuntime) {
 
 // The text that a program is printed as.
 fn prints<R: AllocGlobal + Abort>(rt: &R, file: &[u8], text: &[u8]) {
-    let mut host = host_with(rt, file);
+    let mut host = host_of(rt, file);
     assert_eq!(rt; psxk(rt.alloc(), &["dis", "a.exe"], &mut host), 0);
     assert_eq!(rt; host.sent(Out::Tty), text);
     assert_eq!(rt; host.sent(Out::Report), b"".as_slice());
@@ -59,7 +59,7 @@ sll r0, r0, 0
 
 #[test]
 fn prints_no_other_file(rt: HostRuntime) {
-    let mut host = host_with(&rt, b"PS-X EXE");
+    let mut host = host_of(&rt, b"PS-X EXE");
     assert_eq!(rt; psxk(rt.alloc(), &["dis", "a.exe"], &mut host), 3);
     assert_eq!(rt; host.sent(Out::Report), b"psxk: exe: Short\n".as_slice());
     assert_eq!(rt; host.sent(Out::Tty), b"".as_slice());
@@ -69,8 +69,7 @@ fn prints_no_other_file(rt: HostRuntime) {
 
 // The status and the report of a text, and the file that it gives.
 fn assembles<R: AllocGlobal + Abort>(rt: &R, text: &[u8]) -> MemoryHost {
-    let mut host = MemoryHost::new(rt.alloc(), ROOM).expect(rt, "room");
-    host.put("a.s", text).expect(rt, "put");
+    let mut host = host_with(rt, "a.s", text);
     assert_eq!(rt; psxk(rt.alloc(), &["asm", "a.s"], &mut host), 0);
     assert_eq!(rt; host.sent(Out::Report), b"".as_slice());
     host
@@ -103,8 +102,7 @@ fn assembles_programs(rt: HostRuntime) {
 
 // A text with a fault.
 fn refuses<R: AllocGlobal + Abort>(rt: &R, text: &[u8], report: &[u8]) {
-    let mut host = MemoryHost::new(rt.alloc(), ROOM).expect(rt, "room");
-    host.put("a.s", text).expect(rt, "put");
+    let mut host = host_with(rt, "a.s", text);
     assert_eq!(rt;
         psxk(rt.alloc(), &["asm", "a.s"], &mut host),
         8,
@@ -150,7 +148,7 @@ text:   .asciiz \"hello\\n\"
 #[test]
 fn runs_what_it_assembles(rt: HostRuntime) {
     let made = assembles(&rt, HELLO_TEXT);
-    let mut host = host_with(&rt, made.sent(Out::Ram));
+    let mut host = host_of(&rt, made.sent(Out::Ram));
     assert_eq!(rt; psxk(rt.alloc(), &RUN, &mut host), 0);
     assert_eq!(rt; host.sent(Out::Tty), b"hello\n".as_slice());
 }

@@ -1,12 +1,12 @@
 //! Whole runs of programs over hosts in memory. The expected counts are those of the image's words, counted by hand.
-use crate::programs::{HELLO, HELLO_TRACE, RUN, host_with, program};
+use crate::hosts::{HELLO, HELLO_TRACE, RUN, host_of, program};
 use psx_base::Out;
 use psxk_run::psxk;
 use std::process::Abort;
 
 #[test]
 fn prints_a_letter_and_exits(rt: HostRuntime) {
-    let mut host = host_with(&rt, &program(&rt, &HELLO));
+    let mut host = host_of(&rt, &program(&rt, &HELLO));
     assert_eq!(rt; psxk(rt.alloc(), &RUN, &mut host), 0);
     assert_eq!(rt; host.sent(Out::Tty), b"A".as_slice());
     assert_eq!(rt; host.sent(Out::Trace), HELLO_TRACE);
@@ -16,7 +16,7 @@ fn prints_a_letter_and_exits(rt: HostRuntime) {
 
 #[test]
 fn ends_by_its_budget(rt: HostRuntime) {
-    let mut host = host_with(&rt, &program(&rt, &HELLO));
+    let mut host = host_of(&rt, &program(&rt, &HELLO));
     assert_eq!(rt; psxk(rt.alloc(), &["run", "a.exe", "-", "1"], &mut host), 0);
     assert_eq!(rt; host.sent(Out::Tty), b"".as_slice());
     assert_eq!(rt; host.sent(Out::Trace), b"S 1 Budget\n".as_slice());
@@ -24,7 +24,7 @@ fn ends_by_its_budget(rt: HostRuntime) {
 
 // A program's status and the end of its trace and report.
 fn stops<R: AllocGlobal + Abort>(rt: &R, words: &[u32], status: u8, stop: &[u8]) {
-    let mut host = host_with(rt, &program(rt, words));
+    let mut host = host_of(rt, &program(rt, words));
     assert_eq!(rt; psxk(rt.alloc(), &RUN, &mut host), status, "{stop:?}");
     assert!(rt; host.sent(Out::Trace).ends_with(stop), "{stop:?}");
     assert!(rt;
@@ -110,7 +110,7 @@ fn names_what_the_guard_bars(rt: HostRuntime) {
 
 // The front of a program's trace.
 fn traces<R: AllocGlobal + Abort>(rt: &R, words: &[u32], front: &[u8]) {
-    let mut host = host_with(rt, &program(rt, words));
+    let mut host = host_of(rt, &program(rt, words));
     assert_eq!(rt; psxk(rt.alloc(), &RUN, &mut host), 1, "{front:?}");
     assert!(rt; host.sent(Out::Trace).starts_with(front), "{front:?}");
 }
@@ -286,7 +286,7 @@ fn enters_by_a_gate_in_another_segment(rt: HostRuntime) {
         0x0140_0008,
         0,
     ];
-    let mut host = host_with(&rt, &program(&rt, &words));
+    let mut host = host_of(&rt, &program(&rt, &words));
     assert_eq!(rt; psxk(rt.alloc(), &RUN, &mut host), 0);
     assert_eq!(rt; host.sent(Out::Tty), b"A".as_slice());
     assert!(rt;
@@ -298,7 +298,7 @@ fn enters_by_a_gate_in_another_segment(rt: HostRuntime) {
 
 #[test]
 fn runs_to_the_end_of_user_memory(rt: HostRuntime) {
-    let mut host = host_with(&rt, &program(&rt, &[]));
+    let mut host = host_of(&rt, &program(&rt, &[]));
     assert_eq!(rt; psxk(rt.alloc(), &RUN, &mut host), 1);
     assert_eq!(rt;
         host.sent(Out::Trace),
