@@ -12,7 +12,7 @@ use Rattle.psx_base.specs.Items.{Entrance, ByA, ByB, ByC, BySyscall, ByInterrupt
 use Rattle.psx_base.specs.KernelState.{KernelState}
 use Rattle.kern_layout.specs.Valid.{Valid, RunningFits}
 use Rattle.abs_kernel.specs.declared.calls.CallId.{CallId}
-use Rattle.abs_kernel.specs.declared.calls.CallId.TheVariants.{A06, A1B, A2A, A2B, A2E, A2F, A30, A3A, A3C, A3E, B38, B3D, B3F}
+use Rattle.abs_kernel.specs.declared.calls.CallId.TheVariants.{A06, A1B, A25, A2A, A2B, A2E, A2F, A30, A3A, A3C, A3E, B38, B3D, B3F}
 use Rattle.abs_kernel.specs.CallTable.{served_call}
 use Rattle.abs_kernel.specs.Cause.{entrance_of}
 use Rattle.abs_kernel.specs.Answered.{registers_of, with_answer, answered}
@@ -23,6 +23,7 @@ use Rattle.abs_kernel.specs.Memchr.{find_byte}
 use Rattle.abs_kernel.specs.Memset.{fill, memset}
 use Rattle.abs_kernel.specs.Memcpy.{copy_bytes, memcpy}
 use Rattle.abs_kernel.specs.Strlen.{count_bytes}
+use Rattle.abs_kernel.specs.Toupper.{capital_of}
 use Rattle.abs_kernel.specs.Puts.{write_text}
 use Rattle.abs_kernel.specs.Calls.{call, by_row}
 use Rattle.abs_kernel.specs.Sys.{behind_syscall, syscall}
@@ -120,6 +121,7 @@ module _ (P : KernelState → Type 0) (Q : Stop → Memory → Type 0) (s : Kern
   call_ends : (id : CallId) → Halts (changes id) Q s → Returns (changes id) P s → EachEnd P Q (call id s)
   call_ends A06 halts returns = halts _
   call_ends A1B halts returns = pointer_ends P Q s halts returns _ (counted_ends P Q s halts returns longest (registers_of s).r4 0)
+  call_ends A25 halts returns = answered_ends P Q s halts returns (capital_of ((registers_of s).r4 % 2 ^ 8))
   call_ends A2A halts returns = memcpy_ends P Q s halts returns
   call_ends A2B halts returns = memset_ends P Q s halts returns
   call_ends A2E halts returns = let r = registers_of s in pointer_ends P Q s halts returns _ (found_ends P Q s halts returns (count_of r.r6) r.r4 (r.r5 % 2 ^ 8))

@@ -4,7 +4,7 @@ use Rattle.psx_base.specs.declared.stop.Table.{Table}
 use Rattle.psx_base.specs.declared.stop.Stop.TheVariants.{Unserved}
 use Rattle.psx_base.specs.KernelState.{KernelState}
 use Rattle.abs_kernel.specs.declared.calls.CallId.{CallId}
-use Rattle.abs_kernel.specs.declared.calls.CallId.TheVariants.{A06, A1B, A2A, A2B, A2E, A2F, A30, A3A, A3C, A3E, B38, B3D, B3F}
+use Rattle.abs_kernel.specs.declared.calls.CallId.TheVariants.{A06, A1B, A25, A2A, A2B, A2E, A2F, A30, A3A, A3C, A3E, B38, B3D, B3F}
 use Rattle.abs_kernel.specs.CallTable.{served_call}
 use Rattle.abs_kernel.specs.Stay.{Stay, Halt}
 use Rattle.abs_kernel.specs.Answered.{registers_of}
@@ -12,6 +12,7 @@ use Rattle.abs_kernel.specs.Exits.{exits}
 use Rattle.abs_kernel.specs.Putchar.{putchar}
 use Rattle.abs_kernel.specs.Puts.{puts}
 use Rattle.abs_kernel.specs.Strlen.{strlen}
+use Rattle.abs_kernel.specs.Toupper.{toupper}
 use Rattle.abs_kernel.specs.Memcpy.{memcpy}
 use Rattle.abs_kernel.specs.Memset.{memset}
 use Rattle.abs_kernel.specs.Memchr.{memchr}
@@ -22,6 +23,7 @@ use Rattle.abs_kernel.specs.Srand.{srand}
 abbrev pub call : CallId → KernelState → Stay
 call A06 s = exits s
 call A1B s = strlen s
+call A25 s = toupper s
 call A2A s = memcpy s
 call A2B s = memset s
 call A2E s = memchr s

@@ -9,6 +9,7 @@ pub mod UserWords
 pub mod Putchar
 pub mod Puts
 pub mod Strlen
+pub mod Toupper
 pub mod Memset
 pub mod Memchr
 pub mod Memcpy

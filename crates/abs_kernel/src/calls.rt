@@ -11,6 +11,8 @@ pub enum CallId {
     A06,
     /// strlen(s): the number of bytes before the zero.
     A1B,
+    /// toupper(c): the low byte, a small letter as its capital.
+    A25,
     /// memcpy(d, s, n): copies n bytes, and answers d.
     A2A,
     /// memset(d, c, n): writes a byte n times, and answers d.
@@ -39,9 +41,10 @@ pub enum CallId {
 pub type Row = (Table, u32, CallId, u32, &'static str);
 
 /// The calls that are served, by table and number. A call stands here and nowhere else: what a number means, a call's arguments and its name are read from this list.
-pub const ROWS: [Row; 13] = [
+pub const ROWS: [Row; 14] = [
     (Table::A, 0x06, CallId::A06, 1, "exit"),
     (Table::A, 0x1B, CallId::A1B, 1, "strlen"),
+    (Table::A, 0x25, CallId::A25, 1, "toupper"),
     (Table::A, 0x2A, CallId::A2A, 3, "memcpy"),
     (Table::A, 0x2B, CallId::A2B, 3, "memset"),
     (Table::A, 0x2E, CallId::A2E, 3, "memchr"),

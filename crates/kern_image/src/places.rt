@@ -3,7 +3,7 @@ use abs_kernel::CallId;
 use kern_entry::places::EXIT;
 use kern_file::places::{PUTCHAR, PUTS};
 use kern_mem::places::{MEMCHR, MEMCPY, MEMSET, RAND, SRAND};
-use kern_text::places::STRLEN;
+use kern_text::places::{STRLEN, TOUPPER};
 
 /// A call, and the address of the listing that serves it.
 #[derive(Clone, Copy)]
@@ -15,9 +15,10 @@ pub struct Place {
 }
 
 /// Each call once. Numbers of one description share an address.
-pub const PLACES: [Place; 13] = [
+pub const PLACES: [Place; 14] = [
     Place { call: CallId::A06, at: EXIT },
     Place { call: CallId::A1B, at: STRLEN },
+    Place { call: CallId::A25, at: TOUPPER },
     Place { call: CallId::A2A, at: MEMCPY },
     Place { call: CallId::A2B, at: MEMSET },
     Place { call: CallId::A2E, at: MEMCHR },

@@ -2,6 +2,7 @@
 #![tactic(auto)]
 
 pub mod a1b_strlen;
+pub mod a25_toupper;
 pub mod places;
 pub mod placing;
 #[cfg(test)]

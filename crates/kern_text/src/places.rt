@@ -7,3 +7,6 @@ pub const STRLEN: u32 = CACHED + TEXT_CODE.from;
 
 /// The listing that counts the bytes of user memory from an address on.
 pub const ROOM: u32 = STRLEN + 0x80;
+
+/// The listing of toupper.
+pub const TOUPPER: u32 = ROOM + 0xC0;

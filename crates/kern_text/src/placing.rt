@@ -7,11 +7,12 @@ ghost use Rattle.kern_stay.specs.declared.places.TheConstants.{CACHED};
 ghost use Rattle.kern_stay.specs.declared.room.TheConstants.{ROOM_NODES};
 ghost use Rattle.kern_text.specs.declared.places.TheConstants as place;
 ghost use Rattle.kern_text.specs.declared.a1b_strlen.TheConstants as strlen;
+ghost use Rattle.kern_text.specs.declared.a25_toupper.TheConstants as toupper;
 ghost use Rattle.kern_text.specs.TextWords.{text_pieces};
 ghost use Rattle.kern_text.specs.TextLaws.{TextServes};
 
-use crate::a1b_strlen;
-use crate::places::{ROOM, STRLEN};
+use crate::places::{ROOM, STRLEN, TOUPPER};
+use crate::{a1b_strlen, a25_toupper};
 use kern_layout::KernelBlock;
 use kern_stay::placing::put_listing;
 use kern_stay::room::ROOM_NODES;
@@ -20,6 +21,7 @@ use kern_stay::room::ROOM_NODES;
 pub fn place(block: &mut KernelBlock)
     ensures { (f : ℕ → ℕ) → IsBlock block.old f → IsBlock block.new (overlaid text_pieces f) }
 {
+    put_listing(block, TOUPPER, &a25_toupper::NODES);
     put_listing(block, ROOM, &ROOM_NODES);
     put_listing(block, STRLEN, &a1b_strlen::NODES);
 }
@@ -27,7 +29,8 @@ pub fn place(block: &mut KernelBlock)
 /// Each listing ends where the next one begins, or before it, and all of them in the range of the text calls. It does nothing.
 pub fn apart()
     ensures strlen { EndsBy place.STRLEN strlen.NODES place.ROOM }
-    ensures room { EndsBy place.ROOM ROOM_NODES (CACHED + TEXT_CODE.to) }
+    ensures room { EndsBy place.ROOM ROOM_NODES place.TOUPPER }
+    ensures toupper { EndsBy place.TOUPPER toupper.NODES (CACHED + TEXT_CODE.to) }
 {}
 
 /// Where the words stand, each call is served by its listing. It does nothing.
