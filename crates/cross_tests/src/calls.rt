@@ -30,6 +30,42 @@ fn stands_in(bytes: &[u8], part: &[u8]) -> bool {
 }
 
 #[test]
+fn toupper_changes_the_small_letters_of_the_low_byte(rt: HostRuntime) {
+    shows(
+        &rt,
+        b"
+start:
+        li      r10, 0xA0
+        li      r9, 0x25                # toupper
+        li      r4, 0x1161              # the low byte is a small a
+        jalr    r31, r10
+        nop
+        move    r16, r2
+        li      r4, 'z'
+        jalr    r31, r10
+        nop
+        sll     r16, r16, 8
+        addu    r16, r16, r2
+        li      r4, '{'                 # the byte behind z
+        jalr    r31, r10
+        nop
+        sll     r16, r16, 8
+        addu    r16, r16, r2
+        li      r4, 0xE1                # no ASCII
+        jalr    r31, r10
+        nop
+        sll     r16, r16, 8
+        addu    r4, r16, r2
+        li      r9, 0x06                # exit
+        jr      r10
+        nop
+",
+        b"",
+        b" Exit 415A7BE1\n",
+    );
+}
+
+#[test]
 fn strlen_counts_the_bytes_before_the_zero(rt: HostRuntime) {
     shows(
         &rt,
