@@ -17,10 +17,11 @@ use Rattle.abs_kernel.specs.CallTable.{served_call}
 use Rattle.abs_kernel.specs.Cause.{entrance_of}
 use Rattle.abs_kernel.specs.Answered.{registers_of, with_answer, answered}
 use Rattle.abs_kernel.specs.Stay.{Stay}
-use Rattle.abs_kernel.specs.UserBytes.{following, count_of}
-use Rattle.abs_kernel.specs.Random.{random_next}
-use Rattle.abs_kernel.specs.MemoryCalls.{find_byte, fill}
-use Rattle.abs_kernel.specs.Console.{write_text, longest}
+use Rattle.abs_kernel.specs.UserBytes.{following, count_of, longest}
+use Rattle.abs_kernel.specs.Rand.{random_next}
+use Rattle.abs_kernel.specs.Memchr.{find_byte}
+use Rattle.abs_kernel.specs.Memset.{fill}
+use Rattle.abs_kernel.specs.Puts.{write_text}
 use Rattle.abs_kernel.specs.Calls.{call, by_row}
 use Rattle.abs_kernel.specs.Sys.{behind_syscall, syscall}
 use Rattle.abs_kernel.specs.KernelStep.{settled_state, by_entrance, stay_of}

@@ -1,9 +1,10 @@
 -- The calls that are served, with their numbers, arguments and names (PSX-SPX, Kernel (BIOS), function summary).
-use Rattle.std.specs.Prelude.{ℕ, nat_eq, codes, List, [], ◌∷◌, Option, Some, None, if◌then◌else◌}
+use Rattle.std.specs.Prelude.{ℕ, Bool, nat_eq, codes, List, [], ◌∷◌, Option, Some, None, if◌then◌else◌}
 use Rattle.psx_base.specs.declared.stop.Table.{Table}
 use Rattle.psx_base.specs.declared.stop.Table.TheVariants.{A, B, C, Sys}
 use Rattle.abs_kernel.specs.declared.calls.CallId.{CallId}
 use Rattle.abs_kernel.specs.declared.calls.CallId.TheVariants.{A06, A2B, A2E, A2F, A30, A3A, A3C, A3E, B38, B3D, B3F}
+use Rattle.abs_kernel.specs.contracts.calls.CallIdPartialEq.TheImpl as id_eq
 
 -- the rows of each table: a number and its call
 abbrev pub calls_of_a : List (ℕ × CallId)
@@ -27,6 +28,9 @@ call_in (row ∷ rows) number = if nat_eq number row.0 then Some row.1 else call
 -- the call that a table has at a number
 abbrev pub served_call : Table → ℕ → Option CallId
 served_call table number = call_in (calls_of table) number
+
+abbrev pub same_call : CallId → CallId → Bool
+same_call a b = id_eq.ghosts.eq a b
 
 -- how many arguments a call takes
 abbrev pub arguments : CallId → ℕ

@@ -9,9 +9,12 @@ use Rattle.abs_kernel.specs.CallTable.{served_call}
 use Rattle.abs_kernel.specs.Stay.{Stay, Halt}
 use Rattle.abs_kernel.specs.Answered.{registers_of}
 use Rattle.abs_kernel.specs.Exits.{exits}
-use Rattle.abs_kernel.specs.Console.{put_character, put_text}
-use Rattle.abs_kernel.specs.Random.{rand, seed}
-use Rattle.abs_kernel.specs.MemoryCalls.{memset, memchr}
+use Rattle.abs_kernel.specs.Putchar.{putchar}
+use Rattle.abs_kernel.specs.Puts.{puts}
+use Rattle.abs_kernel.specs.Memset.{memset}
+use Rattle.abs_kernel.specs.Memchr.{memchr}
+use Rattle.abs_kernel.specs.Rand.{rand}
+use Rattle.abs_kernel.specs.Srand.{srand}
 
 -- each call's stay
 abbrev pub call : CallId → KernelState → Stay
@@ -19,13 +22,13 @@ call A06 s = exits s
 call A2B s = memset s
 call A2E s = memchr s
 call A2F s = rand s
-call A30 s = seed s
+call A30 s = srand s
 call A3A s = exits s
-call A3C s = put_character s
-call A3E s = put_text s
+call A3C s = putchar s
+call A3E s = puts s
 call B38 s = exits s
-call B3D s = put_character s
-call B3F s = put_text s
+call B3D s = putchar s
+call B3F s = puts s
 
 -- a number without a row stops with its table, itself and r31
 abbrev pub by_row : Table → Option CallId → KernelState → Stay

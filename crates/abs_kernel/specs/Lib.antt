@@ -4,10 +4,15 @@ pub mod Stay
 pub mod Answered
 pub mod Exits
 pub mod Switching
-pub mod Console
 pub mod UserBytes
-pub mod Random
-pub mod MemoryCalls
+pub mod Putchar
+pub mod Puts
+pub mod Strlen
+pub mod Memset
+pub mod Memchr
+pub mod Memcpy
+pub mod Rand
+pub mod Srand
 pub mod Calls
 pub mod Sys
 pub mod KernelStep
@@ -19,3 +24,4 @@ pub mod PlayedLaws
 pub mod ProgramLaws
 pub mod UserLaws
 pub mod Equations
+pub mod Work

@@ -29,3 +29,7 @@ following at = (at + 1) % 2 ^ 32
 -- how many bytes a count with sign means
 abbrev pub count_of : ℕ → ℕ
 count_of n = if nat_lt n (2 ^ 31) then n else 0
+
+-- no text in user memory is as long as main memory, 2 MB
+unfoldable pub longest : ℕ
+longest = 2 ^ 21

@@ -22,7 +22,7 @@ use Rattle.abs_kernel.proofs.UserSteps.{user_step_keeps_valid}
 use Rattle.abs_run.specs.InWords.{CoreFits, MoveFits}
 use Rattle.abs_run.specs.InKernel.{in_kernel}
 use Rattle.abs_run.specs.Entered.{coming, interrupt, bound_of}
-use Rattle.abs_run.specs.Serves.{Serves}
+use Rattle.abs_run.specs.Serves.{ServesRom}
 use Rattle.abs_run.specs.KernelRun.{Place, User, RunsFrom}
 use Rattle.abs_run.specs.Invariant.{EntersAt, IsInvariant, EachEntry}
 use Rattle.abs_run.proofs.UserSide.{UserMade, step-made}
@@ -37,7 +37,7 @@ step-interrupt : (k : Core) (bus : Bus) → takes_interrupt k.processor bus.line
 unfolding step
 step-interrupt k bus h = rw h refl
 
-module _ (covers : KernelState → ℕ → Type 0) (keeps : KernelState → History → Type 0) (shows : Entrance → ℕ → Type 0) (rom : List ℕ) (serves : Serves covers rom) (inv : IsInvariant covers keeps shows) where
+module _ (covers : KernelState → ℕ → Type 0) (keeps : KernelState → History → Type 0) (shows : Entrance → ℕ → Type 0) (rom : List ℕ) (serves : ServesRom covers rom) (inv : IsInvariant covers keeps shows) where
   abbrev Holds : Place → List ℕ → Outcome → Type 0
   Holds place bytes o = stay.Holds covers keeps shows rom serves inv place bytes o
 

@@ -11,7 +11,7 @@ use Rattle.abs_kernel.specs.Stay.{Stay, Return, Halt, Ask, Tell, Write, Touch}
 use Rattle.abs_kernel.specs.Played.{Access, Asked, Told, Written, End, Returned, Halted, played}
 use Rattle.abs_kernel.specs.Touched.{touched}
 use Rattle.abs_run.specs.InKernel.{InKernel, Sign, Nothing, PortRead, PortWritten, Printed, LeftKernel, EndedRun, Strayed, halt_sign, write_sign, sign_of}
-use Rattle.abs_run.specs.Serves.{Onward, Comes, AsksFor, Tells, Prints, Returns, Ends, Runs}
+use Rattle.abs_run.specs.Serves.{Onward, Comes, AsksFor, WritesTo, Prints, Returns, HaltsWith, Runs}
 use Rattle.abs_run.specs.Lists.{AreWords, brings, StepOn, RunsListed, ServesLists}
 use Rattle.abs_run.specs.RunLaws.{ListsAreServed}
 use Rattle.abs_run.proofs.PortAsked.{TakesValue, step-takes}
@@ -90,9 +90,9 @@ module _ (rom : List ℕ) where
       ends left ls _ takes h = absurd h
 
   halt-listed : (stop : Stop) (memory : Memory) → Listed (Halt stop memory)
-  halt-listed stop memory bound k r lines answers words enough = comes-listed (Ends stop memory) (128 * 0) answers [] (Halted stop memory) words ends bound lines k r
+  halt-listed stop memory bound k r lines answers words enough = comes-listed (HaltsWith stop memory) (128 * 0) answers [] (Halted stop memory) words ends bound lines k r
     where
-      ends : Last (Ends stop memory) (128 * 0) answers [] (Halted stop memory) words
+      ends : Last (HaltsWith stop memory) (128 * 0) answers [] (Halted stop memory) words
       ends left ls (EndedRun next told) takes h = (memory, refl, ap (λ (x : Stop). Halted x memory) (sym h.0), h.1)
       ends left ls _ takes h = absurd h
 
@@ -113,9 +113,9 @@ module _ (rom : List ℕ) where
 
   tell-listed : (port value : ℕ) (next : Stay) → Listed next → Listed (Tell port value next)
   tell-listed port value next rest bound k r lines answers words enough =
-      comes-listed (Tells port value (λ left. Runs rom next (left + 128))) (128 * (1 + touched next answers)) answers (Told port value ∷ (played next answers).accesses) (played next answers).end words writes bound lines k r
+      comes-listed (WritesTo port value (λ left. Runs rom next (left + 128))) (128 * (1 + touched next answers)) answers (Told port value ∷ (played next answers).accesses) (played next answers).end words writes bound lines k r
     where
-      writes : Last (Tells port value (λ left. Runs rom next (left + 128))) (128 * (1 + touched next answers)) answers (Told port value ∷ (played next answers).accesses) (played next answers).end words
+      writes : Last (WritesTo port value (λ left. Runs rom next (left + 128))) (128 * (1 + touched next answers)) answers (Told port value ∷ (played next answers).accesses) (played next answers).end words
       writes left ls (PortWritten to at put) takes h =
           let p = played next answers in (
             p.accesses,

@@ -21,7 +21,7 @@ use Rattle.abs_kernel.specs.Played.{Access, Asked, Told, Written, Returned, Halt
 use Rattle.abs_kernel.specs.StayLaws.{EachReturn}
 use Rattle.abs_run.specs.InWords.{CoreFits, MoveFits}
 use Rattle.abs_run.specs.InKernel.{InKernel, in_kernel, side_of, Sign, Nothing, PortRead, PortWritten, Printed, LeftKernel, EndedRun, sign_of}
-use Rattle.abs_run.specs.Serves.{Onward, Comes, AsksFor, Tells, Prints, Returns, Ends, Runs, Serves}
+use Rattle.abs_run.specs.Serves.{Onward, Comes, AsksFor, WritesTo, Prints, Returns, HaltsWith, Runs, ServesRom}
 use Rattle.abs_run.specs.KernelRun.{Place, User, Kernel, Does, RunsFrom}
 use Rattle.abs_run.specs.Invariant.{Passes, ReturnsTo, IsInvariant, EachEntry}
 use Rattle.abs_run.proofs.StepWords.{steps_keep_words}
@@ -30,7 +30,7 @@ use Rattle.abs_run.proofs.Counts.{run-zero, run-suc}
 use Rattle.abs_run.proofs.Behind.{Behind, ports-append, bytes-append, behind-asked, behind-told, behind-written, does, is_within}
 use Rattle.abs_run.proofs.Signed.{Signed, signed}
 
-module _ (covers : KernelState → ℕ → Type 0) (keeps : KernelState → History → Type 0) (shows : Entrance → ℕ → Type 0) (rom : List ℕ) (serves : Serves covers rom) (inv : IsInvariant covers keeps shows) where
+module _ (covers : KernelState → ℕ → Type 0) (keeps : KernelState → History → Type 0) (shows : Entrance → ℕ → Type 0) (rom : List ℕ) (serves : ServesRom covers rom) (inv : IsInvariant covers keeps shows) where
   -- a run is the kernel machine's from a place on, behind these console bytes
   abbrev pub Holds : Place → List ℕ → Outcome → Type 0
   Holds place bytes o = EachEntry shows o.items → RunsFrom o.items place (bytes ++ o.tty) o.last.core.bytes
@@ -195,7 +195,7 @@ module _ (covers : KernelState → ℕ → Type 0) (keeps : KernelState → Hist
     on-return state left (LeftKernel core) t h sg c = returned state core t h sg c
     on-return state left _ t h sg c = absurd c
 
-    on-halt : (stop : Stop) (memory : Memory) (left : ℕ) (sign : Sign) (t : Turn) → InStay s code made (Halt stop memory) m → Signed d sign t → Onward (Comes (Ends stop memory) left) (λ (x : Sign). Ends stop memory x left) sign → Goal t
+    on-halt : (stop : Stop) (memory : Memory) (left : ℕ) (sign : Sign) (t : Turn) → InStay s code made (Halt stop memory) m → Signed d sign t → Onward (Comes (HaltsWith stop memory) left) (λ (x : Sign). HaltsWith stop memory x left) sign → Goal t
     on-halt stop memory left (Nothing k) t h sg c = quiet (Halt stop memory) k t left h sg c
     on-halt stop memory left (EndedRun core told) t h sg c = halted stop memory core told t h sg c.0 c.1
     on-halt stop memory left _ t h sg c = absurd c
@@ -211,7 +211,7 @@ module _ (covers : KernelState → ℕ → Type 0) (keeps : KernelState → Hist
     abbrev Onwards : Stay → ℕ → InKernel → Type 0
     Onwards rest left = Runs rom rest (left + 128)
 
-    on-tell : (port value : ℕ) (rest : Stay) (left : ℕ) (sign : Sign) (t : Turn) → InStay s code made (Tell port value rest) m → Signed d sign t → Onward (Comes (Tells port value (Onwards rest)) left) (λ (x : Sign). Tells port value (Onwards rest) x left) sign → Goal t
+    on-tell : (port value : ℕ) (rest : Stay) (left : ℕ) (sign : Sign) (t : Turn) → InStay s code made (Tell port value rest) m → Signed d sign t → Onward (Comes (WritesTo port value (Onwards rest)) left) (λ (x : Sign). WritesTo port value (Onwards rest) x left) sign → Goal t
     on-tell port value rest left (Nothing k) t h sg c = quiet (Tell port value rest) k t left h sg c
     on-tell port value rest left (PortWritten k at put) t h sg c = told port value rest at put k t (left + 128) h sg c.0 c.1 c.2
     on-tell port value rest left _ t h sg c = absurd c
@@ -225,11 +225,11 @@ module _ (covers : KernelState → ℕ → Type 0) (keeps : KernelState → Hist
     stay_step (Return state) bound h r =
         let c = comes (Returns rom state) bound h.fits r in on-return state c.0 (sign_of (in_kernel d.core d.history) (step d.core (bus_of d))) (stepped d) h (signed d h.began (step d.core (bus_of d)) (made-words h.words h.fits)) c.1
     stay_step (Halt stop memory) bound h r =
-        let c = comes (Ends stop memory) bound h.fits r in on-halt stop memory c.0 (sign_of (in_kernel d.core d.history) (step d.core (bus_of d))) (stepped d) h (signed d h.began (step d.core (bus_of d)) (made-words h.words h.fits)) c.1
+        let c = comes (HaltsWith stop memory) bound h.fits r in on-halt stop memory c.0 (sign_of (in_kernel d.core d.history) (step d.core (bus_of d))) (stepped d) h (signed d h.began (step d.core (bus_of d)) (made-words h.words h.fits)) c.1
     stay_step (Ask port rest) bound h r =
         let c = comes (AsksFor port (Answers rest)) bound h.fits r in on-ask port rest c.0 (sign_of (in_kernel d.core d.history) (step d.core (bus_of d))) (stepped d) h (signed d h.began (step d.core (bus_of d)) (made-words h.words h.fits)) c.1
     stay_step (Tell port value rest) bound h r =
-        let c = comes (Tells port value (Onwards rest)) bound h.fits r in on-tell port value rest c.0 (sign_of (in_kernel d.core d.history) (step d.core (bus_of d))) (stepped d) h (signed d h.began (step d.core (bus_of d)) (made-words h.words h.fits)) c.1
+        let c = comes (WritesTo port value (Onwards rest)) bound h.fits r in on-tell port value rest c.0 (sign_of (in_kernel d.core d.history) (step d.core (bus_of d))) (stepped d) h (signed d h.began (step d.core (bus_of d)) (made-words h.words h.fits)) c.1
     stay_step (Put byte rest) bound h r =
         let c = comes (Prints byte (Onwards rest)) bound h.fits r in on-write byte rest c.0 (sign_of (in_kernel d.core d.history) (step d.core (bus_of d))) (stepped d) h (signed d h.began (step d.core (bus_of d)) (made-words h.words h.fits)) c.1
     stay_step (Touch bytes rest) bound h r =

@@ -14,7 +14,7 @@ use Rattle.psx_board.specs.Run.{Outcome, run, board_run}
 use Rattle.kern_layout.specs.Start.{SizesFit}
 use Rattle.kern_layout.proofs.StartValid.{start-valid}
 use Rattle.abs_run.specs.Accepted.{IsAccepted, opening, program_memory}
-use Rattle.abs_run.specs.Serves.{Serves}
+use Rattle.abs_run.specs.Serves.{ServesRom}
 use Rattle.abs_run.specs.KernelRun.{User, RunsFrom, EndsInBoot, ComesToProgram}
 use Rattle.abs_kernel.specs.Stay.{Stay, Return, Halt, Ask, Tell, Write as Put, Touch}
 use Rattle.abs_kernel.specs.KernelStep.{stay_of}
@@ -41,7 +41,7 @@ board_boots covers rom serves exe sizes schedule budget acc fit bytes =
 
 -- ---- the run
 
-module _ (covers : KernelState → ℕ → Type 0) (keeps : KernelState → History → Type 0) (shows : Entrance → ℕ → Type 0) (rom : List ℕ) (serves : Serves covers rom) (inv : IsInvariant covers keeps shows)
+module _ (covers : KernelState → ℕ → Type 0) (keeps : KernelState → History → Type 0) (shows : Entrance → ℕ → Type 0) (rom : List ℕ) (serves : ServesRom covers rom) (inv : IsInvariant covers keeps shows)
     (exe : Exe) (sizes : Sizes) (acc : IsAccepted exe) (fit : SizesFit sizes) where
   at-program : (m : Machine) → Started rom exe sizes m → AtUser covers keeps shows rom serves inv (opening exe sizes) m
   at-program m st = record {

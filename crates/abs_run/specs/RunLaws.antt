@@ -14,7 +14,7 @@ use Rattle.kern_layout.specs.Stands.{SameUser}
 use Rattle.abs_run.specs.Accepted.{IsAccepted, AreBytes}
 use Rattle.abs_kernel.specs.Stay.{Stay}
 use Rattle.abs_run.specs.InKernel.{InKernel}
-use Rattle.abs_run.specs.Serves.{Runs, Serves}
+use Rattle.abs_run.specs.Serves.{Runs, ServesRom}
 use Rattle.abs_run.specs.Lists.{ServesLists}
 use Rattle.abs_run.specs.KernelRun.{KernelRun}
 use Rattle.abs_run.specs.Invariant.{IsInvariant, EachEntry}
@@ -22,7 +22,7 @@ use Rattle.abs_run.specs.Invariant.{IsInvariant, EachEntry}
 -- Where a ROM serves what is covered, each run of the board whose entries are covered is a kernel run of its program, whatever the schedule and the budget.
 abbrev pub BoardRuns : (KernelState → ℕ → Type 0) → (KernelState → History → Type 0) → (Entrance → ℕ → Type 0) → Type 0
 BoardRuns covers keeps shows =
-    (rom : List ℕ) → Serves covers rom → IsInvariant covers keeps shows
+    (rom : List ℕ) → ServesRom covers rom → IsInvariant covers keeps shows
     → (exe : Exe) (sizes : Sizes) (schedule : List Entry) (budget : ℕ) → IsAccepted exe → SizesFit sizes → AreBytes schedule
     → let o = board_run rom exe sizes schedule budget in EachEntry shows o.items → KernelRun exe sizes o.items o.tty o.last.core.bytes
 
@@ -33,7 +33,7 @@ BootsIn steps budget items = ((budget < steps) × (items ≡ S budget Budget ∷
 -- and this number is the same for all programs, sizes, schedules and budgets
 abbrev pub BoardBoots : (KernelState → ℕ → Type 0) → Type 0
 BoardBoots covers =
-    (rom : List ℕ) (serves : Serves covers rom) (exe : Exe) (sizes : Sizes) (schedule : List Entry) (budget : ℕ) → IsAccepted exe → SizesFit sizes → AreBytes schedule
+    (rom : List ℕ) (serves : ServesRom covers rom) (exe : Exe) (sizes : Sizes) (schedule : List Entry) (budget : ℕ) → IsAccepted exe → SizesFit sizes → AreBytes schedule
     → BootsIn serves.boot_steps budget (board_run rom exe sizes schedule budget).items
 
 -- ---- kernel runs
@@ -69,5 +69,5 @@ always s code = Unit {0}
 -- Where a ROM serves every entry, each run of the board is a kernel run of its program.
 abbrev pub EveryRun : Type 0
 EveryRun =
-    (rom : List ℕ) → Serves always rom → (exe : Exe) (sizes : Sizes) (schedule : List Entry) (budget : ℕ) → IsAccepted exe → SizesFit sizes → AreBytes schedule
+    (rom : List ℕ) → ServesRom always rom → (exe : Exe) (sizes : Sizes) (schedule : List Entry) (budget : ℕ) → IsAccepted exe → SizesFit sizes → AreBytes schedule
     → let o = board_run rom exe sizes schedule budget in KernelRun exe sizes o.items o.tty o.last.core.bytes

@@ -45,9 +45,9 @@ AsksFor port on (PortRead next at value) left = (at ≡ port) × on value left n
 AsksFor port on _ left = ⊥
 
 -- it writes this to a port
-abbrev pub Tells : (port value : ℕ) → (ℕ → InKernel → Type 0) → Sign → ℕ → Type 0
-Tells port value on (PortWritten next at written) left = (at ≡ port) × (written ≡ value) × on left next
-Tells port value on _ left = ⊥
+abbrev pub WritesTo : (port value : ℕ) → (ℕ → InKernel → Type 0) → Sign → ℕ → Type 0
+WritesTo port value on (PortWritten next at written) left = (at ≡ port) × (written ≡ value) × on left next
+WritesTo port value on _ left = ⊥
 
 -- it writes this byte to the console
 abbrev pub Prints : ℕ → (ℕ → InKernel → Type 0) → Sign → ℕ → Type 0
@@ -60,16 +60,16 @@ Returns rom state (LeftKernel next) left = Stands (side_of next) next.bytes stat
 Returns rom state _ left = ⊥
 
 -- it ends the run with a stop, and the user's memory is this
-abbrev pub Ends : Stop → Memory → Sign → ℕ → Type 0
-Ends stop memory (EndedRun next told) left = (told ≡ stop) × SameUser next.bytes memory
-Ends stop memory _ left = ⊥
+abbrev pub HaltsWith : Stop → Memory → Sign → ℕ → Type 0
+HaltsWith stop memory (EndedRun next told) left = (told ≡ stop) × SameUser next.bytes memory
+HaltsWith stop memory _ left = ⊥
 
 -- the words make a stay within so many steps, and 128 more for each access to a port or the console and each byte that it touches
 abbrev pub Runs : List ℕ → Stay → (bound : ℕ) → InKernel → Type 0
 Runs rom (Return state) bound k = Comes (Returns rom state) bound k
-Runs rom (Halt stop memory) bound k = Comes (Ends stop memory) bound k
+Runs rom (Halt stop memory) bound k = Comes (HaltsWith stop memory) bound k
 Runs rom (Ask port next) bound k = Comes (AsksFor port (λ value left. Runs rom (next value) (left + 128))) bound k
-Runs rom (Tell port value next) bound k = Comes (Tells port value (λ left. Runs rom next (left + 128))) bound k
+Runs rom (Tell port value next) bound k = Comes (WritesTo port value (λ left. Runs rom next (left + 128))) bound k
 Runs rom (Write byte next) bound k = Comes (Prints byte (λ left. Runs rom next (left + 128))) bound k
 Runs rom (Touch bytes next) bound k = Runs rom next (bound + 128 * bytes) k
 
@@ -101,7 +101,7 @@ abbrev pub entered : Core → Trap → (a b c : ℕ) → InKernel
 entered k trap a b c = record { core = record k { processor = enter k.processor trap }; a = a; b = b; c = c }
 
 -- A ROM serves what is covered, by the state and the exception's code: from each processor with its memory, of words and bytes, that stands for a valid state. The boot takes the same number of steps for all programs and sizes.
-pub record Serves (covers : KernelState → ℕ → Type 0) (rom : List ℕ) : Type 0 where
+pub record ServesRom (covers : KernelState → ℕ → Type 0) (rom : List ℕ) : Type 0 where
   pub bytes : All (λ (b : ℕ). b < 2 ^ 8) rom
   pub gates : GatesRead rom
   pub boot_steps : ℕ

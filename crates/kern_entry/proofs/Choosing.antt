@@ -75,7 +75,7 @@ no_gate_by epc m a b c d e =
     ap gate_at (mirrored_place epc m) ∙ no_gate (epc % 2 ^ 29) (λ h. a (shifted epc 0xA0 h)) (λ h. b (shifted epc 0xB0 h)) (λ h. c (shifted epc 0xC0 h)) (λ h. d (shifted epc 0xD0 h)) (λ h. e (shifted epc 0xE0 h))
 
 pub causes_meets : (c : Registers) (code : ℕ) (slot : Bool) (z : Cop0) (on : Bool) (m : Memory) (p : List Access) (most more : ℕ) (s : Run) → Entered c z on m p most s → z.cause ≡ cause_of code slot → code < 32 → (code ≡ 8 → slot ≡ false → is_mirrored z.epc ≡ true)
-    → most + 40 ≤ more → Meets kernel_words (calls kernel_words []) (tree CAUSES_NODES) CAUSES (λ _. ⊥) (λ to e. (to ≡ arrival (entrance code slot z.epc)) × Entered c z on m p more e) s
+    → most + 38 ≤ more → Meets kernel_words (calls kernel_words []) (tree CAUSES_NODES) CAUSES (λ _. ⊥) (λ to e. (to ≡ arrival (entrance code slot z.epc)) × Entered c z on m p more e) s
 causes_meets c code slot z on m p most more s h cause small mirror few =
     let G : ℕ → Run → Type 0 = λ to e. (to ≡ arrival (entrance code slot z.epc)) × Entered c z on m p more e in
     let reads : (line : Bool) → s.cop0.cause + (if line then 2 ^ 10 else 0) ≡ cause_with code slot line = λ line. ap (λ x. x.cause + (if line then 2 ^ 10 else 0)) h.cop0 ∙ ap (λ x. x + (if line then 2 ^ 10 else 0)) cause in
@@ -84,9 +84,9 @@ causes_meets c code slot z on m p most more s h cause small mirror few =
     let within = h.holds.within in
     let epc : s.cop0.epc ≡ z.epc = ap (λ x. x.epc) h.cop0 in
     start (calls kernel_words []) (fair kernel_words []) (tree CAUSES_NODES) CAUSES (λ _. ⊥) G s (λ line. (
-      λ ne. (other_code code slot z.epc (λ e. ne (coded line ∙ e)), on_to _ _ _ refl refl refl refl (refl, refl, refl, refl) refl (omega arith)),
+      λ ne. (other_code code slot z.epc (λ e. ne (coded line ∙ e)), on_to _ _ _ _ refl refl refl refl (refl, refl, refl, refl) refl (omega arith)),
       λ is. (
-        λ neg. (in_slot code slot z.epc (sym (coded line) ∙ is) (is_in_slot code slot line small (subst (λ x. 2 ^ 31 ≤ x) (reads line) neg)), on_to _ _ _ refl refl refl refl (refl, refl, refl, refl) refl (omega arith)),
+        λ neg. (in_slot code slot z.epc (sym (coded line) ∙ is) (is_in_slot code slot line small (subst (λ x. 2 ^ 31 ≤ x) (reads line) neg)), on_to _ _ _ _ refl refl refl refl (refl, refl, refl, refl) refl (omega arith)),
         λ pos.
             let eight : code ≡ 8 = sym (coded line) ∙ is in
             let out : slot ≡ false = not_in_slot code slot line small (subst (λ x. x < 2 ^ 31) (reads line) pos) in
@@ -94,16 +94,16 @@ causes_meets c code slot z on m p most more s h cause small mirror few =
             let same : s.cop0.epc * 2 ^ 3 % 2 ^ 32 ≡ z.epc * 2 ^ 3 % 2 ^ 32 = ap (λ x. x * 2 ^ 3 % 2 ^ 32) epc in
             let gate : (g : Option Gate) → gate_of z.epc ≡ g → arrival (by_syscall false g) ≡ arrival (entrance code slot z.epc) = λ g. by_gate code slot z.epc g eight out in
             let by : (q : ℕ) → q < 2 ^ 29 → s.cop0.epc * 2 ^ 3 % 2 ^ 32 ≡ 8 * q → gate_of z.epc ≡ gate_at q = λ q lt e. gate_by z.epc q mi lt (sym same ∙ e) in (
-              λ a. (gate _ (by 0xA0 (omega arith) a), on_to _ _ _ refl refl refl refl (refl, refl, refl, refl) refl (omega arith)),
+              λ a. (gate _ (by 0xA0 (omega arith) a), on_to _ _ _ _ refl refl refl refl (refl, refl, refl, refl) refl (omega arith)),
               λ na. (
-                λ b. (gate _ (by 0xB0 (omega arith) b), on_to _ _ _ refl refl refl refl (refl, refl, refl, refl) refl (omega arith)),
+                λ b. (gate _ (by 0xB0 (omega arith) b), on_to _ _ _ _ refl refl refl refl (refl, refl, refl, refl) refl (omega arith)),
                 λ nb. (
-                  λ cc'. (gate _ (by 0xC0 (omega arith) cc'), on_to _ _ _ refl refl refl refl (refl, refl, refl, refl) refl (omega arith)),
+                  λ cc'. (gate _ (by 0xC0 (omega arith) cc'), on_to _ _ _ _ refl refl refl refl (refl, refl, refl, refl) refl (omega arith)),
                   λ nc. (
-                    λ d. (gate _ (by 0xD0 (omega arith) d), on_to _ _ _ refl refl refl refl (refl, refl, refl, refl) refl (omega arith)),
+                    λ d. (gate _ (by 0xD0 (omega arith) d), on_to _ _ _ _ refl refl refl refl (refl, refl, refl, refl) refl (omega arith)),
                     λ nd. (
-                      λ e. (gate _ (by 0xE0 (omega arith) e), on_to _ _ _ refl refl refl refl (refl, refl, refl, refl) refl (omega arith)),
-                      λ ne. (gate _ (no_gate_by z.epc mi (λ h. na (same ∙ h)) (λ h. nb (same ∙ h)) (λ h. nc (same ∙ h)) (λ h. nd (same ∙ h)) (λ h. ne (same ∙ h))), on_to _ _ _ refl refl refl refl (refl, refl, refl, refl) refl (omega arith)),
+                      λ e. (gate _ (by 0xE0 (omega arith) e), on_to _ _ _ _ refl refl refl refl (refl, refl, refl, refl) refl (omega arith)),
+                      λ ne. (gate _ (no_gate_by z.epc mi (λ h. na (same ∙ h)) (λ h. nb (same ∙ h)) (λ h. nc (same ∙ h)) (λ h. nd (same ∙ h)) (λ h. ne (same ∙ h))), on_to _ _ _ _ refl refl refl refl (refl, refl, refl, refl) refl (omega arith)),
                     ),
                   ),
                 ),

@@ -11,7 +11,7 @@ use Rattle.kern_entry.specs.declared.places.TheConstants.{LEAVE, BEHIND, RESUME,
 use Rattle.kern_entry.specs.declared.leave.TheConstants.{LEAVE_NODES, BEHIND_NODES, RESUME_NODES, WORK_NODES}
 use Rattle.kern_entry.specs.EntryWords.{tree}
 use Rattle.kern_entry.specs.Made.{Spared}
-use Rattle.kern_entry.proofs.WorkArea.{held, Holds, applied_spared, spared_then, area_put, area_r31, area_pc, area_sr, area_loaded}
+use Rattle.kern_entry.proofs.WorkArea.{held, AreaHolds, applied_spared, spared_then, area_put, area_r31, area_pc, area_sr, area_loaded}
 
 -- the context is in the registers, and SR is as it was saved
 pub record Resumed (c : Registers) (pc : ℕ) (on : Bool) (m : Memory) (p : List Access) (most : ℕ) (e : Run) : Type 0 where
@@ -22,7 +22,7 @@ pub record Resumed (c : Registers) (pc : ℕ) (on : Bool) (m : Memory) (p : List
   pub rest : List Access
   pub seen : e.seen ≡ Load 4 0xEB88 last ∷ rest
   pub ports : ports rest ≡ p
-  pub within : e.passed ≤ most
+  pub within : e.steps ≤ most
 
 sr_is_kept : (on : Bool) → sr_kept (saved_sr_of on) ≡ saved_sr_of on
 sr_is_kept true = refl
@@ -32,15 +32,15 @@ sr_is_even : (on : Bool) → nat_eq (sr_kept (saved_sr_of on) % 2) 0 ≡ true
 sr_is_even true = refl
 sr_is_even false = refl
 
-module _ (c : Registers) (pc : ℕ) (on : Bool) (m : Memory) (p : List Access) (most more : ℕ) (s : Run) (h : Holds c pc on m p most s) (few : most + 10 ≤ more) where
-  pub leave_meets : Meets kernel_words (calls kernel_words []) (tree LEAVE_NODES) LEAVE (λ _. ⊥) (λ to e. (to ≡ RESUME) × Holds (record c { r2 = s.regs.r2 }) c.r31 on m p more e) s
+module _ (c : Registers) (pc : ℕ) (on : Bool) (m : Memory) (p : List Access) (most more : ℕ) (s : Run) (h : AreaHolds c pc on m p most s) (few : most + 10 ≤ more) where
+  pub leave_meets : Meets kernel_words (calls kernel_words []) (tree LEAVE_NODES) LEAVE (λ _. ⊥) (λ to e. (to ≡ RESUME) × AreaHolds (record c { r2 = s.regs.r2 }) c.r31 on m p more e) s
   leave_meets =
       let within = h.within in
       let v : ℕ = word s.bytes 0xEB84 in
       let n : Memory = put_word s.bytes 0xEB10 s.regs.r2 in
       let d : Registers = record c { r2 = s.regs.r2 } in
       let P : ℕ → Type 0 = λ x. Block (word (put_word n 0xEB88 v)) 0xEB00 (saved (held d x on)) in
-      start (calls kernel_words []) (fair kernel_words []) (tree LEAVE_NODES) LEAVE (λ _. ⊥) (λ to e. (to ≡ RESUME) × Holds d c.r31 on m p more e) s (
+      start (calls kernel_words []) (fair kernel_words []) (tree LEAVE_NODES) LEAVE (λ _. ⊥) (λ to e. (to ≡ RESUME) × AreaHolds d c.r31 on m p more e) s (
         refl,
         record {
           area = subst P (area_r31 s.bytes c pc on h.area) (area_put n 0x88 v (saved (held d pc on)) _ refl refl refl (area_put s.bytes 0x10 s.regs.r2 (saved (held c pc on)) _ refl refl refl h.area));
@@ -50,12 +50,12 @@ module _ (c : Registers) (pc : ℕ) (on : Bool) (m : Memory) (p : List Access) (
         },
       )
 
-  pub behind_meets : Meets kernel_words (calls kernel_words []) (tree BEHIND_NODES) BEHIND (λ _. ⊥) (λ to e. (to ≡ RESUME) × Holds c ((pc + 4) % 2 ^ 32) on m p more e) s
+  pub behind_meets : Meets kernel_words (calls kernel_words []) (tree BEHIND_NODES) BEHIND (λ _. ⊥) (λ to e. (to ≡ RESUME) × AreaHolds c ((pc + 4) % 2 ^ 32) on m p more e) s
   behind_meets =
       let within = h.within in
       let v : ℕ = (word s.bytes 0xEB88 + 4) % 2 ^ 32 in
       let P : ℕ → Type 0 = λ x. Block (word (put_word s.bytes 0xEB88 v)) 0xEB00 (saved (held c x on)) in
-      start (calls kernel_words []) (fair kernel_words []) (tree BEHIND_NODES) BEHIND (λ _. ⊥) (λ to e. (to ≡ RESUME) × Holds c ((pc + 4) % 2 ^ 32) on m p more e) s (
+      start (calls kernel_words []) (fair kernel_words []) (tree BEHIND_NODES) BEHIND (λ _. ⊥) (λ to e. (to ≡ RESUME) × AreaHolds c ((pc + 4) % 2 ^ 32) on m p more e) s (
         refl,
         record {
           area = subst P (ap (λ x. (x + 4) % 2 ^ 32) (area_pc s.bytes c pc on h.area)) (area_put s.bytes 0x88 v (saved (held c pc on)) _ refl refl refl h.area);
@@ -65,10 +65,10 @@ module _ (c : Registers) (pc : ℕ) (on : Bool) (m : Memory) (p : List Access) (
         },
       )
 
-  pub work_meets : Meets kernel_words (calls kernel_words []) (tree WORK_NODES) WORK (λ _. ⊥) (λ to e. (to ≡ RESUME) × Holds c pc on m p more e) s
+  pub work_meets : Meets kernel_words (calls kernel_words []) (tree WORK_NODES) WORK (λ _. ⊥) (λ to e. (to ≡ RESUME) × AreaHolds c pc on m p more e) s
   work_meets =
       let within = h.within in
-      start (calls kernel_words []) (fair kernel_words []) (tree WORK_NODES) WORK (λ _. ⊥) (λ to e. (to ≡ RESUME) × Holds c pc on m p more e) s
+      start (calls kernel_words []) (fair kernel_words []) (tree WORK_NODES) WORK (λ _. ⊥) (λ to e. (to ≡ RESUME) × AreaHolds c pc on m p more e) s
       (refl, record { area = h.area; spared = h.spared; ports = h.ports; within = omega arith })
 
   pub resume_meets : most + 45 ≤ more → Meets kernel_words (calls kernel_words []) (tree RESUME_NODES) RESUME (λ e. Resumed c pc on m p more e) (λ _ _. ⊥) s

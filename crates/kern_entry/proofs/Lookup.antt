@@ -63,7 +63,7 @@ pub record Called (at : CallId → ℕ) (table : Table) (number : ℕ) (c : Regi
   pub table_is : e.regs.r10 ≡ number
 
 module _ (go : CallId → ℕ) (there : AllThere go) (c : Registers) (z : Cop0) (on : Bool) (m : Memory) (p : List Access) (most more : ℕ) (s : Run) (h : Entered c z on m p most s) (few : most + 20 ≤ more) where
-  on_to : (d : Registers) (q : List Access) (n : ℕ) → d.r2 ≡ s.regs.r2 → d.r4 ≡ s.regs.r4 → d.r9 ≡ s.regs.r9 → d.r31 ≡ s.regs.r31 → (d.r5 ≡ s.regs.r5) × (d.r6 ≡ s.regs.r6) × (d.r7 ≡ s.regs.r7) × (d.r29 ≡ s.regs.r29) → ports q ≡ ports s.seen → n ≤ more → Entered c z on m p more (record { regs = d; cop0 = s.cop0; bytes = s.bytes; seen = q; passed = n })
+  on_to : (d : Registers) (q : List Access) (passed n : ℕ) → d.r2 ≡ s.regs.r2 → d.r4 ≡ s.regs.r4 → d.r9 ≡ s.regs.r9 → d.r31 ≡ s.regs.r31 → (d.r5 ≡ s.regs.r5) × (d.r6 ≡ s.regs.r6) × (d.r7 ≡ s.regs.r7) × (d.r29 ≡ s.regs.r29) → ports q ≡ ports s.seen → n ≤ more → Entered c z on m p more (record { regs = d; cop0 = s.cop0; bytes = s.bytes; seen = q; passed = passed; steps = n })
   on_to = entered_on c z on m p most more s h
 
   -- the number is the program's r9
@@ -84,11 +84,11 @@ module _ (go : CallId → ℕ) (there : AllThere go) (c : Registers) (z : Cop0) 
       rw (lt-ltb n 0xc0 lt) (
         λ y. absurd (omega arith),
         λ _. rw (address 0x200 n (omega arith) (omega arith), code_sort at small even, code_place at (omega arith)) (
-          λ y. record { to_is = none_there go there (served_call A c.r9) _ is y; entered = on_to _ _ _ refl refl refl refl (refl, refl, refl, refl) refl (omega arith); table_is = refl },
-          λ ne. record { to_is = some_there go (served_call A c.r9) _ is ne; entered = on_to _ _ _ refl refl refl refl (refl, refl, refl, refl) refl (omega arith); table_is = refl },
+          λ y. record { to_is = none_there go there (served_call A c.r9) _ is y; entered = on_to _ _ _ _ refl refl refl refl (refl, refl, refl, refl) refl (omega arith); table_is = refl },
+          λ ne. record { to_is = some_there go (served_call A c.r9) _ is ne; entered = on_to _ _ _ _ refl refl refl refl (refl, refl, refl, refl) refl (omega arith); table_is = refl },
         ),
       ))
-      (λ ge. rw (too_large n 0xc0 ge) (λ y. record { to_is = sym (ap (destination go) (sym (served_is A) ∙ a_behind n ge)); entered = on_to _ _ _ refl refl refl refl (refl, refl, refl, refl) refl (omega arith); table_is = refl }, λ ne. absurd (ne refl)))
+      (λ ge. rw (too_large n 0xc0 ge) (λ y. record { to_is = sym (ap (destination go) (sym (served_is A) ∙ a_behind n ge)); entered = on_to _ _ _ _ refl refl refl refl (refl, refl, refl, refl) refl (omega arith); table_is = refl }, λ ne. absurd (ne refl)))
       (cases_lt n 0xc0))
 
   pub call_b_meets : TableAt go s.bytes B 0x874 0x5f → Meets kernel_words (calls kernel_words []) (tree CALL_B_NODES) CALL_B (λ _. ⊥) (λ to e. Called go B 1 c z on m p more to e) s
@@ -105,11 +105,11 @@ module _ (go : CallId → ℕ) (there : AllThere go) (c : Registers) (z : Cop0) 
       rw (lt-ltb n 0x5f lt) (
         λ y. absurd (omega arith),
         λ _. rw (address 0x874 n (omega arith) (omega arith), code_sort at small even, code_place at (omega arith)) (
-          λ y. record { to_is = none_there go there (served_call B c.r9) _ is y; entered = on_to _ _ _ refl refl refl refl (refl, refl, refl, refl) refl (omega arith); table_is = refl },
-          λ ne. record { to_is = some_there go (served_call B c.r9) _ is ne; entered = on_to _ _ _ refl refl refl refl (refl, refl, refl, refl) refl (omega arith); table_is = refl },
+          λ y. record { to_is = none_there go there (served_call B c.r9) _ is y; entered = on_to _ _ _ _ refl refl refl refl (refl, refl, refl, refl) refl (omega arith); table_is = refl },
+          λ ne. record { to_is = some_there go (served_call B c.r9) _ is ne; entered = on_to _ _ _ _ refl refl refl refl (refl, refl, refl, refl) refl (omega arith); table_is = refl },
         ),
       ))
-      (λ ge. rw (too_large n 0x5f ge) (λ y. record { to_is = sym (ap (destination go) (sym (served_is B) ∙ b_behind n ge)); entered = on_to _ _ _ refl refl refl refl (refl, refl, refl, refl) refl (omega arith); table_is = refl }, λ ne. absurd (ne refl)))
+      (λ ge. rw (too_large n 0x5f ge) (λ y. record { to_is = sym (ap (destination go) (sym (served_is B) ∙ b_behind n ge)); entered = on_to _ _ _ _ refl refl refl refl (refl, refl, refl, refl) refl (omega arith); table_is = refl }, λ ne. absurd (ne refl)))
       (cases_lt n 0x5f))
 
   pub call_c_meets : TableAt go s.bytes C 0x674 0x20 → Meets kernel_words (calls kernel_words []) (tree CALL_C_NODES) CALL_C (λ _. ⊥) (λ to e. Called go C 2 c z on m p more to e) s
@@ -126,9 +126,9 @@ module _ (go : CallId → ℕ) (there : AllThere go) (c : Registers) (z : Cop0) 
       rw (lt-ltb n 0x20 lt) (
         λ y. absurd (omega arith),
         λ _. rw (address 0x674 n (omega arith) (omega arith), code_sort at small even, code_place at (omega arith)) (
-          λ y. record { to_is = none_there go there (served_call C c.r9) _ is y; entered = on_to _ _ _ refl refl refl refl (refl, refl, refl, refl) refl (omega arith); table_is = refl },
-          λ ne. record { to_is = some_there go (served_call C c.r9) _ is ne; entered = on_to _ _ _ refl refl refl refl (refl, refl, refl, refl) refl (omega arith); table_is = refl },
+          λ y. record { to_is = none_there go there (served_call C c.r9) _ is y; entered = on_to _ _ _ _ refl refl refl refl (refl, refl, refl, refl) refl (omega arith); table_is = refl },
+          λ ne. record { to_is = some_there go (served_call C c.r9) _ is ne; entered = on_to _ _ _ _ refl refl refl refl (refl, refl, refl, refl) refl (omega arith); table_is = refl },
         ),
       ))
-      (λ ge. rw (too_large n 0x20 ge) (λ y. record { to_is = sym (ap (destination go) (sym (served_is C) ∙ c_behind n ge)); entered = on_to _ _ _ refl refl refl refl (refl, refl, refl, refl) refl (omega arith); table_is = refl }, λ ne. absurd (ne refl)))
+      (λ ge. rw (too_large n 0x20 ge) (λ y. record { to_is = sym (ap (destination go) (sym (served_is C) ∙ c_behind n ge)); entered = on_to _ _ _ _ refl refl refl refl (refl, refl, refl, refl) refl (omega arith); table_is = refl }, λ ne. absurd (ne refl)))
       (cases_lt n 0x20))

@@ -6,14 +6,12 @@ use Rattle.psx_flow.specs.declared.listings.TheConstants as tested
 use Rattle.psx_flow.specs.Kernel.{kernel_words}
 use Rattle.psx_flow.specs.Reaches.{IsPlaced, ArePlaced}
 use Rattle.psx_flow.proofs.Step.{StandsAs, as_code}
-use Rattle.kern_stay.specs.declared.room.TheConstants.{ROOM_NODES}
-use Rattle.kern_stay.specs.declared.copy.TheConstants.{COPY_NODES}
-use Rattle.kern_stay.specs.Shared.{shared}
+use Rattle.kern_stay.specs.Shared.{tested_there}
 use Rattle.kern_stay.proofs.Standing.{code_stands, placed_by}
-use Rattle.kern_entry.specs.declared.places.TheConstants.{VECTOR, SAVE, CAUSES, CALL_A, CALL_B, CALL_C, UNSERVED, EXCEPTION, LEAVE, BEHIND, RESUME, WORK, EXIT, DONE, BACK, PUTCHAR, SYSCALLS, BAD_POINTER, ROOM, COPY, READ_BYTE, WRITE_BYTE, READ_WORD, WRITE_WORD}
+use Rattle.kern_entry.specs.declared.places.TheConstants.{VECTOR, SAVE, CAUSES, CALL_A, CALL_B, CALL_C, UNSERVED, EXCEPTION, LEAVE, BEHIND, RESUME, WORK, EXIT, DONE, BACK, SYSCALLS, BAD_POINTER, BAD_THREAD, DEEP, READ_BYTE, WRITE_BYTE, READ_WORD, WRITE_WORD}
 use Rattle.kern_entry.specs.declared.save.TheConstants.{VECTOR_NODES, SAVE_NODES, CAUSES_NODES}
-use Rattle.kern_entry.specs.declared.calls.TheConstants.{CALL_A_NODES, CALL_B_NODES, CALL_C_NODES, EXIT_NODES, PUTCHAR_NODES}
-use Rattle.kern_entry.specs.declared.stops.TheConstants.{UNSERVED_NODES, EXCEPTION_NODES, DONE_NODES, BACK_NODES, BAD_POINTER_NODES}
+use Rattle.kern_entry.specs.declared.calls.TheConstants.{CALL_A_NODES, CALL_B_NODES, CALL_C_NODES, EXIT_NODES}
+use Rattle.kern_entry.specs.declared.stops.TheConstants.{UNSERVED_NODES, EXCEPTION_NODES, DONE_NODES, BACK_NODES, BAD_POINTER_NODES, BAD_THREAD_NODES, DEEP_NODES}
 use Rattle.kern_entry.specs.declared.sys.TheConstants.{SYSCALLS_NODES}
 use Rattle.kern_entry.specs.declared.leave.TheConstants.{LEAVE_NODES, BEHIND_NODES, RESUME_NODES, WORK_NODES, RETURN}
 use Rattle.kern_entry.specs.EntryWords.{tree, k0, return_words}
@@ -37,10 +35,11 @@ pub record AllPlaced (m : Memory) : Type 0 where
   pub exit : IsPlaced kernel_words m EXIT (tree EXIT_NODES)
   pub done : IsPlaced kernel_words m DONE (tree DONE_NODES)
   pub back : IsPlaced kernel_words m BACK (tree BACK_NODES)
-  pub putchar : IsPlaced kernel_words m PUTCHAR (tree PUTCHAR_NODES)
   pub syscalls : IsPlaced kernel_words m SYSCALLS (tree SYSCALLS_NODES)
   pub bad_pointer : IsPlaced kernel_words m BAD_POINTER (tree BAD_POINTER_NODES)
-  pub shared : ArePlaced kernel_words m shared
+  pub bad_thread : IsPlaced kernel_words m BAD_THREAD (tree BAD_THREAD_NODES)
+  pub deep : IsPlaced kernel_words m DEEP (tree DEEP_NODES)
+  pub tested : ArePlaced kernel_words m tested_there
   pub return : StandsAs kernel_words m RETURN (JR k0 ∷ RFE ∷ [])
 
 pub all_placed : (m : Memory) → HoldsEntry m → AllPlaced m
@@ -62,17 +61,15 @@ all_placed m h =
       exit = placed_by m EXIT (tree EXIT_NODES) refl refl refl refl (r.1.1.1.1.1.1.1.1.1.1.1.1.1.1.1.1.1.1.0);
       done = placed_by m DONE (tree DONE_NODES) refl refl refl refl (r.1.1.1.1.1.1.1.1.1.1.1.1.1.1.1.1.1.1.1.0);
       back = placed_by m BACK (tree BACK_NODES) refl refl refl refl (r.1.1.1.1.1.1.1.1.1.1.1.1.1.1.1.1.1.1.1.1.0);
-      putchar = placed_by m PUTCHAR (tree PUTCHAR_NODES) refl refl refl refl (r.1.1.1.1.1.1.1.1.1.1.1.1.1.1.1.1.1.1.1.1.1.0);
-      syscalls = placed_by m SYSCALLS (tree SYSCALLS_NODES) refl refl refl refl (r.1.1.1.1.1.1.1.1.1.1.1.1.1.1.1.1.1.1.1.1.1.1.0);
-      bad_pointer = placed_by m BAD_POINTER (tree BAD_POINTER_NODES) refl refl refl refl (r.1.1.1.1.1.1.1.1.1.1.1.1.1.1.1.1.1.1.1.1.1.1.1.0);
-      shared = (
-        placed_by m ROOM (tree ROOM_NODES) refl refl refl refl (r.1.1.1.1.1.1.1.1.1.1.1.1.1.1.1.1.1.1.1.1.1.1.1.1.0),
+      syscalls = placed_by m SYSCALLS (tree SYSCALLS_NODES) refl refl refl refl (r.1.1.1.1.1.1.1.1.1.1.1.1.1.1.1.1.1.1.1.1.1.0);
+      bad_pointer = placed_by m BAD_POINTER (tree BAD_POINTER_NODES) refl refl refl refl (r.1.1.1.1.1.1.1.1.1.1.1.1.1.1.1.1.1.1.1.1.1.1.0);
+      bad_thread = placed_by m BAD_THREAD (tree BAD_THREAD_NODES) refl refl refl refl (r.1.1.1.1.1.1.1.1.1.1.1.1.1.1.1.1.1.1.1.1.1.1.1.0);
+      deep = placed_by m DEEP (tree DEEP_NODES) refl refl refl refl (r.1.1.1.1.1.1.1.1.1.1.1.1.1.1.1.1.1.1.1.1.1.1.1.1.0);
+      tested = (
+        placed_by m READ_BYTE (tree tested.READ_BYTE) refl refl refl refl (r.1.1.1.1.1.1.1.1.1.1.1.1.1.1.1.1.1.1.1.1.1.1.1.1.1.0),
         (
-          placed_by m COPY (tree COPY_NODES) refl refl refl refl (r.1.1.1.1.1.1.1.1.1.1.1.1.1.1.1.1.1.1.1.1.1.1.1.1.1.0),
-          (
-            placed_by m READ_BYTE (tree tested.READ_BYTE) refl refl refl refl (r.1.1.1.1.1.1.1.1.1.1.1.1.1.1.1.1.1.1.1.1.1.1.1.1.1.1.0),
-            (placed_by m WRITE_BYTE (tree tested.WRITE_BYTE) refl refl refl refl (r.1.1.1.1.1.1.1.1.1.1.1.1.1.1.1.1.1.1.1.1.1.1.1.1.1.1.1.0), (placed_by m READ_WORD (tree tested.READ_WORD) refl refl refl refl (r.1.1.1.1.1.1.1.1.1.1.1.1.1.1.1.1.1.1.1.1.1.1.1.1.1.1.1.1.0), (placed_by m WRITE_WORD (tree tested.WRITE_WORD) refl refl refl refl (r.1.1.1.1.1.1.1.1.1.1.1.1.1.1.1.1.1.1.1.1.1.1.1.1.1.1.1.1.1.0), tt))),
-          ),
+          placed_by m WRITE_BYTE (tree tested.WRITE_BYTE) refl refl refl refl (r.1.1.1.1.1.1.1.1.1.1.1.1.1.1.1.1.1.1.1.1.1.1.1.1.1.1.0),
+          (placed_by m READ_WORD (tree tested.READ_WORD) refl refl refl refl (r.1.1.1.1.1.1.1.1.1.1.1.1.1.1.1.1.1.1.1.1.1.1.1.1.1.1.1.0), (placed_by m WRITE_WORD (tree tested.WRITE_WORD) refl refl refl refl (r.1.1.1.1.1.1.1.1.1.1.1.1.1.1.1.1.1.1.1.1.1.1.1.1.1.1.1.1.0), tt)),
         ),
       );
       return = as_code kernel_words m RETURN (JR k0 ∷ RFE ∷ []) (code_stands m RETURN return_words refl (r.1.1.1.1.1.1.1.1.1.1.1.1.1.1.1.1.0));

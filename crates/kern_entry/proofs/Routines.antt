@@ -1,5 +1,5 @@
 -- The stops, and the routines.
-use Rattle.psx_flow.proofs.Kit.{◌≡◌, ℕ, suc, ◌+◌, ◌*◌, ◌%◌, ◌^◌, ◌<◌, ◌≤◌, true, false, refl, sym, ap, ◌∙◌, subst, arith, Memory, word, Registers, Cop0, Run, Access, PortWrite, Meets, calls, kernel_words, fair, start, put_word, Sym, ended}
+use Rattle.psx_flow.proofs.Kit.{◌≡◌, ℕ, suc, ◌+◌, ◌*◌, ◌%◌, ◌^◌, ◌<◌, ◌≤◌, true, false, refl, sym, ap, ◌∙◌, subst, arith, Memory, word, Registers, Cop0, Run, Access, PortWrite, Meets, calls, kernel_words, fair, start, put_word, Sym, counted, ended}
 use Rattle.std.proofs.Common.{Bool, zero, List, [], ◌∷◌, ◌/◌}
 use Rattle.std.specs.Prelude.{if◌then◌else◌, bit_and}
 use Rattle.psx_base.specs.declared.ports.TheConstants.{CONSOLE_DATA, HALT, HALT_A, HALT_B, HALT_C}
@@ -8,13 +8,13 @@ use Rattle.psx_flow.specs.Told.{ports}
 use Rattle.psx_flow.proofs.Log.{KernelWord}
 use Rattle.kern_layout.specs.Fields.{Block}
 use Rattle.kern_layout.specs.Contexts.{saved, saved_sr_of}
-use Rattle.kern_entry.specs.declared.places.TheConstants.{UNSERVED, EXCEPTION, EXIT, DONE, BACK, PUTCHAR, SYSCALLS, LEAVE, BEHIND, BAD_POINTER}
-use Rattle.kern_entry.specs.declared.calls.TheConstants.{EXIT_NODES, PUTCHAR_NODES}
-use Rattle.kern_entry.specs.declared.stops.TheConstants.{UNSERVED_NODES, EXCEPTION_NODES, DONE_NODES, BACK_NODES, BAD_POINTER_NODES}
+use Rattle.kern_entry.specs.declared.places.TheConstants.{UNSERVED, EXCEPTION, EXIT, DONE, BACK, SYSCALLS, LEAVE, BEHIND, BAD_POINTER, BAD_THREAD, DEEP}
+use Rattle.kern_entry.specs.declared.calls.TheConstants.{EXIT_NODES}
+use Rattle.kern_entry.specs.declared.stops.TheConstants.{UNSERVED_NODES, EXCEPTION_NODES, DONE_NODES, BACK_NODES, BAD_POINTER_NODES, BAD_THREAD_NODES, DEEP_NODES}
 use Rattle.kern_entry.specs.declared.sys.TheConstants.{SYSCALLS_NODES}
 use Rattle.kern_entry.specs.EntryWords.{tree}
 use Rattle.kern_entry.specs.Made.{Spared}
-use Rattle.kern_entry.proofs.WorkArea.{held, Holds, Entered, holds_on, applied_spared, spared_then, area_put, area_sr, area_r31}
+use Rattle.kern_entry.proofs.WorkArea.{held, AreaHolds, Entered, holds_on, applied_spared, spared_then, area_put, area_sr, area_r31}
 use Rattle.kern_entry.proofs.Choosing.{code_is}
 
 -- the last access writes a code to the halt port, behind these to ports
@@ -23,24 +23,18 @@ pub record Stops (code : ℕ) (writes : List Access) (m : Memory) (most : ℕ) (
   pub seen : e.seen ≡ PortWrite HALT code ∷ rest
   pub told : ports rest ≡ writes
   pub spared : Spared m e.bytes
-  pub within : e.passed ≤ most
-
--- a routine comes with its answer to LEAVE
-pub record Answers (value : ℕ) (c : Registers) (pc : ℕ) (on : Bool) (m : Memory) (p : List Access) (most to : ℕ) (e : Run) : Type 0 where
-  pub to_is : to ≡ LEAVE
-  pub holds : Holds c pc on m p most e
-  pub answer : e.regs.r2 ≡ value
+  pub within : e.steps ≤ most
 
 -- the program's return comes to exit with its answer
 pub record Exits (value : ℕ) (c : Registers) (pc : ℕ) (on : Bool) (m : Memory) (p : List Access) (most to : ℕ) (e : Run) : Type 0 where
   pub to_is : to ≡ EXIT
-  pub holds : Holds c pc on m p most e
+  pub holds : AreaHolds c pc on m p most e
   pub value_is : e.regs.r4 ≡ value
 
 low_byte : (x : ℕ) → x * 2 ^ 24 % 2 ^ 32 / 2 ^ 24 ≡ x % 2 ^ 8
 low_byte x = omega arith
 
-pub exit_meets : (c : Registers) (pc : ℕ) (on : Bool) (m : Memory) (p : List Access) (most more v : ℕ) (s : Run) → Holds c pc on m p most s → s.regs.r4 ≡ v → most + 10 ≤ more
+pub exit_meets : (c : Registers) (pc : ℕ) (on : Bool) (m : Memory) (p : List Access) (most more v : ℕ) (s : Run) → AreaHolds c pc on m p most s → s.regs.r4 ≡ v → most + 10 ≤ more
     → Meets kernel_words (calls kernel_words []) (tree EXIT_NODES) EXIT (λ e. Stops 1 (PortWrite HALT_A v ∷ p) m more e) (λ _ _. ⊥) s
 exit_meets c pc on m p most more v s h e few =
     let within = h.within in
@@ -52,7 +46,7 @@ module _ (c : Registers) (z : Cop0) (on : Bool) (m : Memory) (p : List Access) (
   done_meets =
       let within = h.holds.within in
       start (calls kernel_words []) (fair kernel_words []) (tree DONE_NODES) DONE (λ _. ⊥) (λ to e. Exits c.r2 c z.epc on m p more to e) s
-      (record { to_is = refl; holds = holds_on c z.epc on m p most more s h.holds _ _ _ _ refl (omega arith); value_is = h.r2 })
+      (record { to_is = refl; holds = holds_on c z.epc on m p most more s h.holds _ _ _ _ _ refl (omega arith); value_is = h.r2 })
 
   pub back_meets : Meets kernel_words (calls kernel_words []) (tree BACK_NODES) BACK (λ e. Stops 7 (PortWrite HALT_A c.r31 ∷ p) m more e) (λ _ _. ⊥) s
   back_meets =
@@ -76,24 +70,28 @@ module _ (c : Registers) (z : Cop0) (on : Bool) (m : Memory) (p : List Access) (
       start (calls kernel_words []) (fair kernel_words []) (tree EXCEPTION_NODES) EXCEPTION (λ e. Stops 2 (PortWrite HALT_B z.epc ∷ PortWrite HALT_A code ∷ p) m more e) (λ _ _. ⊥) s
       (λ line. record { rest = _; seen = refl; told = (λ i. PortWrite HALT_B ((h.cop0 i).epc) ∷ PortWrite HALT_A (coded line i) ∷ h.holds.ports i); spared = h.holds.spared; within = omega arith })
 
--- from a context in the work area
-module _ (c : Registers) (pc : ℕ) (on : Bool) (m : Memory) (p : List Access) (most more : ℕ) (s : Run) (h : Holds c pc on m p most s) (few : most + 30 ≤ more) where
-  pub putchar_meets : s.regs.r4 ≡ c.r4 → Meets kernel_words (calls kernel_words []) (tree PUTCHAR_NODES) PUTCHAR (λ _. ⊥) (λ to e. Answers (c.r4 % 2 ^ 8) c pc on m (PortWrite CONSOLE_DATA c.r4 ∷ p) more to e) s
-  putchar_meets r4 =
-      let within = h.within in
-      start (calls kernel_words []) (fair kernel_words []) (tree PUTCHAR_NODES) PUTCHAR (λ _. ⊥) (λ to e. Answers (c.r4 % 2 ^ 8) c pc on m (PortWrite CONSOLE_DATA c.r4 ∷ p) more to e) s
-      (record {
-        to_is = refl;
-        holds = record { area = h.area; spared = h.spared; ports = (λ i. PortWrite CONSOLE_DATA (r4 i) ∷ h.ports i); within = omega arith };
-        answer = low_byte s.regs.r4 ∙ ap (λ x. x % 2 ^ 8) r4;
-      })
+-- a frame too many
+pub deep_meets : (m : Memory) (p : List Access) (v more : ℕ) (s : Run) → Spared m s.bytes → ports s.seen ≡ p → s.regs.r31 ≡ v → s.steps + 10 ≤ more → Meets kernel_words (calls kernel_words []) (tree DEEP_NODES) DEEP (λ e. Stops 6 (PortWrite HALT_A v ∷ p) m more e) (λ _ _. ⊥) s
+deep_meets m p v more s spared told e few =
+    start (calls kernel_words []) (fair kernel_words []) (tree DEEP_NODES) DEEP (λ e. Stops 6 (PortWrite HALT_A v ∷ p) m more e) (λ _ _. ⊥) s
+    (record { rest = _; seen = refl; told = (λ i. PortWrite HALT_A (e i) ∷ told i); spared = spared; within = omega arith })
 
+-- from a context in the work area
+module _ (c : Registers) (pc : ℕ) (on : Bool) (m : Memory) (p : List Access) (most more : ℕ) (s : Run) (h : AreaHolds c pc on m p most s) (few : most + 30 ≤ more) where
   -- an address that isn't user memory
   pub bad_pointer_meets : (v : ℕ) → s.regs.r8 ≡ v → Meets kernel_words (calls kernel_words []) (tree BAD_POINTER_NODES) BAD_POINTER (λ e. Stops 4 (PortWrite HALT_B c.r31 ∷ PortWrite HALT_A v ∷ p) m more e) (λ _ _. ⊥) s
   bad_pointer_meets v r8 =
       let within = h.within in
       let r31 = area_r31 s.bytes c pc on h.area in
       start (calls kernel_words []) (fair kernel_words []) (tree BAD_POINTER_NODES) BAD_POINTER (λ e. Stops 4 (PortWrite HALT_B c.r31 ∷ PortWrite HALT_A v ∷ p) m more e) (λ _ _. ⊥) s
+      (record { rest = _; seen = refl; told = (λ i. PortWrite HALT_B (r31 i) ∷ PortWrite HALT_A (r8 i) ∷ h.ports i); spared = h.spared; within = omega arith })
+
+  -- a handle that names no thread
+  pub bad_thread_meets : (v : ℕ) → s.regs.r8 ≡ v → Meets kernel_words (calls kernel_words []) (tree BAD_THREAD_NODES) BAD_THREAD (λ e. Stops 5 (PortWrite HALT_B c.r31 ∷ PortWrite HALT_A v ∷ p) m more e) (λ _ _. ⊥) s
+  bad_thread_meets v r8 =
+      let within = h.within in
+      let r31 = area_r31 s.bytes c pc on h.area in
+      start (calls kernel_words []) (fair kernel_words []) (tree BAD_THREAD_NODES) BAD_THREAD (λ e. Stops 5 (PortWrite HALT_B c.r31 ∷ PortWrite HALT_A v ∷ p) m more e) (λ _ _. ⊥) s
       (record { rest = _; seen = refl; told = (λ i. PortWrite HALT_B (r31 i) ∷ PortWrite HALT_A (r8 i) ∷ h.ports i); spared = h.spared; within = omega arith })
 
 -- ---- the SYSCALLs, by r4
@@ -103,9 +101,9 @@ abbrev pub was_on : Bool → ℕ
 was_on on = if on then 1 else 0
 
 abbrev pub SysGoes : (number : ℕ) (c : Registers) (epc : ℕ) (on : Bool) (m : Memory) (p : List Access) (most to : ℕ) (e : Run) → Type 0
-SysGoes zero c epc on m p most to e = (to ≡ BEHIND) × Holds c epc on m p most e
-SysGoes (suc zero) c epc on m p most to e = (to ≡ BEHIND) × Holds (record c { r2 = was_on on }) epc false m p most e
-SysGoes (suc (suc zero)) c epc on m p most to e = (to ≡ BEHIND) × Holds c epc true m p most e
+SysGoes zero c epc on m p most to e = (to ≡ BEHIND) × AreaHolds c epc on m p most e
+SysGoes (suc zero) c epc on m p most to e = (to ≡ BEHIND) × AreaHolds (record c { r2 = was_on on }) epc false m p most e
+SysGoes (suc (suc zero)) c epc on m p most to e = (to ≡ BEHIND) × AreaHolds c epc true m p most e
 SysGoes (suc (suc (suc n))) c epc on m p most to e = ⊥
 
 abbrev pub SysStops : (number : ℕ) (epc : ℕ) (m : Memory) (p : List Access) (most : ℕ) (e : Run) → Type 0
@@ -124,7 +122,7 @@ module _ (c : Registers) (z : Cop0) (on : Bool) (m : Memory) (p : List Access) (
   SysMeets n = Meets kernel_words (calls kernel_words []) (tree SYSCALLS_NODES) SYSCALLS (λ e. SysStops n z.epc m p more e) (λ to e. SysGoes n c z.epc on m p more to e) s
 
   abbrev SysAsks : ℕ → Type 0
-  SysAsks n = Sym (calls kernel_words []) (tree SYSCALLS_NODES) SYSCALLS (ended (λ e. SysStops n z.epc m p more e)) (λ to e. SysGoes n c z.epc on m p more to e) s.regs s.cop0 s.bytes [] s.seen s.passed
+  SysAsks n = Sym (calls kernel_words []) (tree SYSCALLS_NODES) SYSCALLS (ended (λ e. SysStops n z.epc m p more e)) (λ to e. SysGoes n c z.epc on m p more to e) s.regs s.cop0 s.bytes [] s.seen (counted s)
 
   sys_start : (n : ℕ) → SysAsks n → SysMeets n
   sys_start n = start (calls kernel_words []) (fair kernel_words []) (tree SYSCALLS_NODES) SYSCALLS (λ e. SysStops n z.epc m p more e) (λ to e. SysGoes n c z.epc on m p more to e) s
@@ -139,7 +137,7 @@ module _ (c : Registers) (z : Cop0) (on : Bool) (m : Memory) (p : List Access) (
   pub sys_meets : (n : ℕ) → s.regs.r4 ≡ n → SysMeets n
   sys_meets zero e =
       let within = h.holds.within in
-      sys_start zero (λ _. (refl, holds_on c z.epc on m p most more s h.holds _ _ _ _ refl (omega arith)), λ ne. absurd (ne e))
+      sys_start zero (λ _. (refl, holds_on c z.epc on m p most more s h.holds _ _ _ _ _ refl (omega arith)), λ ne. absurd (ne e))
   sys_meets (suc zero) e =
       let within = h.holds.within in
       let x : ℕ = bit_and (word s.bytes 0xEB94 / 2 ^ 2) 1 in

@@ -17,9 +17,9 @@ pub record Arrived (c : Registers) (z : Cop0) (m : Memory) (most : ℕ) (e : Run
   pub cop0 : e.cop0 ≡ z
   pub bytes : e.bytes ≡ m
   pub seen : e.seen ≡ []
-  pub within : e.passed ≤ most
+  pub within : e.steps ≤ most
 
-pub vector_meets : (s : Run) (most : ℕ) → s.seen ≡ [] → s.passed + 1 ≤ most → Meets kernel_words (calls kernel_words []) (tree VECTOR_NODES) VECTOR (λ _. ⊥) (λ to e. (to ≡ SAVE) × Arrived s.regs s.cop0 s.bytes most e) s
+pub vector_meets : (s : Run) (most : ℕ) → s.seen ≡ [] → s.steps + 2 ≤ most → Meets kernel_words (calls kernel_words []) (tree VECTOR_NODES) VECTOR (λ _. ⊥) (λ to e. (to ≡ SAVE) × Arrived s.regs s.cop0 s.bytes most e) s
 vector_meets s most seen few =
     start (calls kernel_words []) (fair kernel_words []) (tree VECTOR_NODES) VECTOR (λ _. ⊥) (λ to e. (to ≡ SAVE) × Arrived s.regs s.cop0 s.bytes most e) s
     (refl, record { regs = refl; cop0 = refl; bytes = refl; seen = seen; within = omega arith })
@@ -28,7 +28,7 @@ vector_meets s most seen few =
 abbrev saves : Registers → Cop0 → Fields
 saves c z = with_field (saved (held c z.epc true)) 0x94 z.sr
 
-pub save_meets : (s : Run) (on : Bool) (most : ℕ) → s.cop0.sr ≡ saved_sr_of on → s.seen ≡ [] → s.passed + 39 ≤ most → Meets kernel_words (calls kernel_words []) (tree SAVE_NODES) SAVE (λ _. ⊥) (λ to e. (to ≡ CAUSES) × Entered s.regs s.cop0 on s.bytes [] most e) s
+pub save_meets : (s : Run) (on : Bool) (most : ℕ) → s.cop0.sr ≡ saved_sr_of on → s.seen ≡ [] → s.steps + 40 ≤ most → Meets kernel_words (calls kernel_words []) (tree SAVE_NODES) SAVE (λ _. ⊥) (λ to e. (to ≡ CAUSES) × Entered s.regs s.cop0 on s.bytes [] most e) s
 save_meets s on most sr seen few =
     let log : List Entry = stored (saves s.regs s.cop0) [] in
     start (calls kernel_words []) (fair kernel_words []) (tree SAVE_NODES) SAVE (λ _. ⊥) (λ to e. (to ≡ CAUSES) × Entered s.regs s.cop0 on s.bytes [] most e) s (

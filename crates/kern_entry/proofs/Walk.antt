@@ -15,10 +15,10 @@ use Rattle.psx_flow.specs.Well.{is_op, is_register, test_fits, fits}
 use Rattle.psx_flow.specs.Spaced.{load_of}
 use Rattle.psx_flow.specs.Lowered.{opposite, always, nop, branch, target_of, code, in_reach, in_region, reaches}
 use Rattle.psx_flow.specs.Run.{Run, Access, state_at, done}
-use Rattle.psx_flow.specs.Meets.{Holds, passing, linking, Goal, Calls, Turns, Meets, calls}
+use Rattle.psx_flow.specs.Meets.{Holds, passing, branching, linking, Goal, Calls, Turns, Meets, calls}
 use Rattle.psx_flow.specs.Plain.{kernel_core}
 use Rattle.psx_flow.specs.Reaches.{Keeps, IsPlaced, ArePlaced}
-use Rattle.psx_flow.proofs.Rules.{decided}
+use Rattle.psx_flow.proofs.Rules.{decided, fair, meets_back}
 use Rattle.psx_flow.proofs.Step.{StandsAs, both, as_code}
 use Rattle.psx_flow.proofs.Kept.{done_keeps}
 use Rattle.psx_flow.proofs.Room.{room, spaced, clear, none_pending, clear_after, tree_spaced}
@@ -30,9 +30,9 @@ use Rattle.kern_entry.proofs.WalkLow.{Low, LowCalls, low_turns, low, low_calls}
 use Rattle.kern_entry.proofs.WalkSteps.{Backs, op, two, taken, passed_by}
 
 module _ (kept : ℕ → Bool) (first : Memory) (P : ℕ → Aim) (backs : Backs P) (most : ℕ) where
-  -- It is shown from a state at an address, where four steps are left for each node up to `most`, and no less than so many in all.
+  -- It is shown from a state at an address, where no less than so many steps are made and left in all.
   abbrev pub At : ℕ → Run → ℕ → Type 0
-  At b s at = (n : ℕ) → b ≤ n + 4 * s.passed → P n (kernel_core (state_at s at)) s.seen
+  At b s at = (n : ℕ) → b ≤ n + s.steps → P n (kernel_core (state_at s at)) s.seen
 
   -- it is shown from the states of goals
   pub record Open (b end : ℕ) (K : Goal) (G : ℕ → Goal) : Type 0 where
@@ -51,6 +51,9 @@ module _ (kept : ℕ → Bool) (first : Memory) (P : ℕ → Aim) (backs : Backs
   passing_keeps : (s : Run) → Keeps kept first s → Keeps kept first (passing s)
   passing_keeps s k = record { bytes = k.bytes; masked = k.masked }
 
+  branching_keeps : (s : Run) → Keeps kept first s → Keeps kept first (branching s)
+  branching_keeps s k = record { bytes = k.bytes; masked = k.masked }
+
   linking_keeps : (s : Run) (back : ℕ) → Keeps kept first s → Keeps kept first (linking s back)
   linking_keeps s back k = record { bytes = k.bytes; masked = k.masked }
 
@@ -58,12 +61,8 @@ module _ (kept : ℕ → Bool) (first : Memory) (P : ℕ → Aim) (backs : Backs
   by_one : (n : ℕ) (s : Run) (raw : Registers) (p : Option (ℕ × ℕ)) (at : ℕ) → 1 ≤ n → P (suc (n - 1)) (kernel_core (pending_at s raw p at)) s.seen → P n (kernel_core (pending_at s raw p at)) s.seen
   by_one n s raw p at h q = let e : suc (n - 1) ≡ n = omega arith in subst (λ j. P j (kernel_core (pending_at s raw p at)) s.seen) e q
 
-  by_two : (b : ℕ) (s : Run) (at : ℕ) → 4 * most ≤ b → suc s.passed ≤ most → ((n : ℕ) → b + 2 ≤ n + 4 * suc s.passed → P (suc (suc n)) (kernel_core (state_at s at)) s.seen) → At b s at
+  by_two : (b : ℕ) (s : Run) (at : ℕ) → most ≤ b → suc (suc s.steps) ≤ most → ((n : ℕ) → b ≤ n + suc (suc s.steps) → P (suc (suc n)) (kernel_core (state_at s at)) s.seen) → At b s at
   by_two b s at least h f n few = let e : suc (suc (n - 2)) ≡ n = omega arith in subst (λ j. P j (kernel_core (state_at s at)) s.seen) e (f (n - 2) (omega arith))
-
-  -- two more steps than are asked
-  by_slack : (b : ℕ) (s : Run) (at : ℕ) → 4 * most ≤ b → s.passed ≤ most → ((n : ℕ) → b ≤ n + 4 * s.passed → P (suc (suc n)) (kernel_core (state_at s at)) s.seen) → At (b + 2) s at
-  by_slack b s at least h f n few = let e : suc (suc (n - 2)) ≡ n = omega arith in subst (λ j. P j (kernel_core (state_at s at)) s.seen) e (f (n - 2) (omega arith))
 
   -- nothing is pending: the run's own state
   at_rest : (s : Run) (raw : Registers) (p : Option (ℕ × ℕ)) (at n : ℕ) → settled raw p ≡ s.regs → p ≡ None → P n (kernel_core (state_at s at)) s.seen → P n (kernel_core (pending_at s raw p at)) s.seen
@@ -71,17 +70,17 @@ module _ (kept : ℕ → Bool) (first : Memory) (P : ℕ → Aim) (backs : Backs
       let f : raw ≡ s.regs = sym (ap (settled raw) z) ∙ e in
       subst (λ x. P n (kernel_core x) s.seen) (sym (λ j. pending_at s (f j) (z j) at)) r
 
-  module _ (C : Calls) (known : (a ret : ℕ) (K : Goal) (b : ℕ) (s : Run) → 4 * most ≤ b → Keeps kept first s → Low most K → ((e : Run) → Keeps kept first e → K e → At b e ret) → C a ret K s → At b s a) (lows : LowCalls kept most C) where
+  module _ (C : Calls) (known : (a ret : ℕ) (K : Goal) (b : ℕ) (s : Run) → most ≤ b → Keeps kept first s → Low most K → ((e : Run) → Keeps kept first e → K e → At b e ret) → C a ret K s → At b s a) (lows : LowCalls kept most C) where
     abbrev Walks : Tree → Type 1
     Walks T =
-        (at : ℕ) (K : Goal) (G : ℕ → Goal) (b : ℕ) (s : Run) (raw : Registers) (p : Option (ℕ × ℕ)) → 4 * most ≤ b → settled raw p ≡ s.regs → clear p T ≡ true → Ready T at → Keeps kept first s → Open b (at + 4 * size T) K G
-        → Meets kept C T at K G s → (n : ℕ) → b ≤ n + 4 * s.passed → P n (kernel_core (pending_at s raw p at)) s.seen
+        (at : ℕ) (K : Goal) (G : ℕ → Goal) (b : ℕ) (s : Run) (raw : Registers) (p : Option (ℕ × ℕ)) → most ≤ b → settled raw p ≡ s.regs → clear p T ≡ true → Ready T at → Keeps kept first s → Open b (at + 4 * size T) K G
+        → Meets kept C T at K G s → (n : ℕ) → b ≤ n + s.steps → P n (kernel_core (pending_at s raw p at)) s.seen
 
     lower : (b end : ℕ) (K : Goal) (G : ℕ → Goal) (T : Tree) (at : ℕ) → Open b end K G → Low most (Meets kept C T at K G)
     lower b end K G T at o e h = low kept most C lows T at K G e o.low o.low_jump h
 
     -- a part of a tree, and what follows it
-    part : (b x end : ℕ) (K : Goal) (G : ℕ → Goal) (r : Tree) (to : ℕ) → 4 * most ≤ b → Walks r → Ready r to → x ≡ to → to + 4 * size r ≡ end → Open b end K G → Open b x (Meets kept C r to K G) G
+    part : (b x end : ℕ) (K : Goal) (G : ℕ → Goal) (r : Tree) (to : ℕ) → most ≤ b → Walks r → Ready r to → x ≡ to → to + 4 * size r ≡ end → Open b end K G → Open b x (Meets kept C r to K G) G
     part b x end K G r to least w rd e f o = record {
       low = lower b end K G r to o;
       low_jump = o.low_jump;
@@ -90,34 +89,35 @@ module _ (kept : ℕ → Bool) (first : Memory) (P : ℕ → Aim) (backs : Backs
     }
 
     -- and with a jump of two steps between them
-    part_over : (b x over to : ℕ) (L : Goal) (G : ℕ → Goal) → 4 * most ≤ b → x ≡ over → Open b to L G
-        → ((n : ℕ) (m : Run) → Keeps kept first m → P n (kernel_core (state_at m to)) m.seen → P (suc (suc n)) (kernel_core (state_at m over)) m.seen) → Open (b + 2) x L G
+    part_over : (b x over to : ℕ) (L : Goal) (G : ℕ → Goal) → most ≤ b → x ≡ over → Open b to L G
+        → ((n : ℕ) (m : Run) → Keeps kept first m → P n (kernel_core (state_at m to)) m.seen → P (suc (suc n)) (kernel_core (state_at m over)) m.seen) → Open b x (λ m. L (branching m)) G
     part_over b x over to L G least e o jump = record {
-      low = o.low;
+      low = λ m h. (let few = o.low (branching m) h in omega (arith, few));
       low_jump = o.low_jump;
-      here = λ m km h. subst (λ a. At (b + 2) m a) (sym e) (by_slack b m over least (o.low m h) (λ n few. jump n m km (o.here m km h n few)));
-      jump = λ a m km h n few. o.jump a m km h n (omega arith);
+      here = λ m km h. subst (λ a. At b m a) (sym e) (by_two b m over least (o.low (branching m) h) (λ n few. jump n m km (o.here (branching m) (branching_keeps m km) h n few)));
+      jump = o.jump;
     }
 
     -- a loop, from its head
-    turns : (n : ℕ) (t : Test) (at back end : ℕ) (body : Goal → Goal) (K : Goal) (G : ℕ → Goal) (b : ℕ) → 4 * most ≤ b
-        → ((L : Goal) (m : Run) → Keeps kept first m → Open (b + 2) back L G → body L m → At (b + 2) m (at + 8))
-        → ((L : Goal) (m : Run) → Low most L → body L m → m.passed ≤ most)
+    turns : (n : ℕ) (t : Test) (at back end : ℕ) (body : Goal → Goal) (K : Goal) (G : ℕ → Goal) (b : ℕ) → most ≤ b
+        → ((L : Goal) (m : Run) → Keeps kept first m → Open b back L G → body L m → At b m (at + 8))
+        → ((L : Goal) (m : Run) → Low most L → body L m → m.steps ≤ most)
         → ((j : ℕ) (m : Run) → Keeps kept first m → Holds t m.regs → P j (kernel_core (state_at m (at + 8))) m.seen → P (suc (suc j)) (kernel_core (state_at m at)) m.seen)
         → ((j : ℕ) (m : Run) → Keeps kept first m → Holds (opposite t) m.regs → P j (kernel_core (state_at m end)) m.seen → P (suc (suc j)) (kernel_core (state_at m at)) m.seen)
         → ((j : ℕ) (m : Run) → Keeps kept first m → P j (kernel_core (state_at m at)) m.seen → P (suc (suc j)) (kernel_core (state_at m back)) m.seen)
         → Open b end K G → (s : Run) → Keeps kept first s → Turns n t body K s → At b s at
     turns zero t at back end body K G b least walks lower into past again o s ks h = absurd h
     turns (suc n) t at back end body K G b least walks lower into past again o s ks h =
-        let few : Low most (Turns n t body K) = λ m w. low_turns kept most C lows n t body K m lower o.low w in
+        let few : (m : Run) → Turns n t body K (branching m) → suc (suc m.steps) ≤ most = λ m w. low_turns kept most C lows n t body K (branching m) lower o.low w in
+        let low_one : Low most (λ m. Turns n t body K (branching m)) = λ m w. (let f = few m w in omega (arith, f)) in
         ⊎_elim
-        (λ y. by_two b s at least (lower _ (passing s) few (h.1 y)) (λ j fw. into j s ks y (walks (Turns n t body K) (passing s) (passing_keeps s ks) (record {
-          low = few;
+        (λ y. by_two b s at least (lower (λ m. Turns n t body K (branching m)) (passing s) low_one (h.1 y)) (λ j fw. into j s ks y (walks (λ m. Turns n t body K (branching m)) (passing s) (passing_keeps s ks) (record {
+          low = low_one;
           low_jump = o.low_jump;
-          here = λ m km w. by_slack b m back least (few m w) (λ i fi. again i m km (turns n t at back end body K G b least walks lower into past again o m km w i fi));
-          jump = λ a m km g i fi. o.jump a m km g i (omega arith);
+          here = λ m km w. by_two b m back least (few m w) (λ i fi. again i m km (turns n t at back end body K G b least walks lower into past again o (branching m) (branching_keeps m km) w i fi));
+          jump = o.jump;
         }) (h.1 y) j fw)))
-        (λ y. by_two b s at least (o.low (passing s) (h.0 y)) (λ j fw. past j s ks y (o.here (passing s) (passing_keeps s ks) (h.0 y) j (omega arith))))
+        (λ y. by_two b s at least (o.low (passing s) (h.0 y)) (λ j fw. past j s ks y (o.here (passing s) (passing_keeps s ks) (h.0 y) j fw)))
         (decided t s.regs)
 
     pub walk : (T : Tree) → Walks T
@@ -127,7 +127,7 @@ module _ (kept : ℕ → Bool) (first : Memory) (P : ℕ → Aim) (backs : Backs
     walk (Do i r) at K G b s raw p least e clr rd ks o h n few =
         let fp = both (is_op i) (fits r) rd.fitting in
         let sq = both (room (load_of i) r) (spaced r) rd.roomy in
-        let small : suc s.passed ≤ most = low kept most C lows r (at + 4) K G (done i s at idle) o.low o.low_jump (h.2 idle (omega arith)) in
+        let small : suc s.steps ≤ most = low kept most C lows r (at + 4) K G (done i s at idle) o.low o.low_jump (h.2 idle (omega arith)) in
         let end : at + 4 * (1 + size r) ≡ at + 4 + 4 * size r = omega arith in
         by_one n s raw p at (omega (arith, few, least, small)) (op kept first P backs (n - 1) i s raw p at r e clr ks rd.words.0 fp.0 h.0 (λ bus lt.
         let m : Run = done i s at bus in
@@ -177,13 +177,14 @@ module _ (kept : ℕ → Bool) (first : Memory) (P : ℕ → Aim) (backs : Backs
         let ready_c : Ready c other = record { fitting = f2.0; reaching = w2.0; roomy = s1.0; words = stands_front kept first other (code c other) (code r end) body_c } in
         let ready_r : Ready r end = record { fitting = f2.1; reaching = w2.1; roomy = s1.1; words = stands_at kept first other end c (code r end) to body_c } in
         let L : Goal = Meets kept C r end K G in
+        let O : Goal = λ m. L (branching m) in
         let rest = part b end (at + 4 * (4 + size a + size c + size r)) K G r end least (walk r) ready_r refl fin o in
-        let least2 : 4 * most ≤ b + 2 = omega arith in
+        let behind : Open b (at + 8 + 4 * size a) O G = part_over b (at + 8 + 4 * size a) over end L G least to_over rest (λ i m km q. taken kept first P backs i always m over end km jump.0 jump.1.0 refl near.1 (even_two at (size a) (size c) st.0.aligned) refl q) in
         at_rest s raw p at n e (none_pending p (Choose t a c r) clr refl)
         (⊎_elim
-        (λ y. by_two b s at least (low kept most C lows a (at + 8) _ G (passing s) rest.low rest.low_jump (h.0 y)) (λ j fw. passed_by kept first P backs j t s at other ks st.0 st.1.0 f0.0 y
-        (walk a (at + 8) L G (b + 2) (passing s) s.regs None least2 refl refl ready_a (passing_keeps s ks)
-        (part_over b (at + 8 + 4 * size a) over end L G least to_over rest (λ i m km q. taken kept first P backs i always m over end km jump.0 jump.1.0 refl near.1 (even_two at (size a) (size c) st.0.aligned) refl q))
+        (λ y. by_two b s at least (low kept most C lows a (at + 8) O G (passing s) behind.low behind.low_jump (h.0 y)) (λ j fw. passed_by kept first P backs j t s at other ks st.0 st.1.0 f0.0 y
+        (walk a (at + 8) O G b (passing s) s.regs None least refl refl ready_a (passing_keeps s ks)
+        behind
         (h.0 y) j (omega (arith, fw)))) n few)
         (λ y. by_two b s at least (low kept most C lows c other _ G (passing s) rest.low rest.low_jump (h.1 y)) (λ j fw. taken kept first P backs j (opposite t) s at other ks st.0 st.1.0 (opposite_fits t f0.0) near.0 (even_16 at (size a) st.0.aligned) y
         (walk c other L G b (passing s) s.regs None least refl refl ready_c (passing_keeps s ks) (subst (λ x. Open b x L G) (sym to) rest) (h.1 y) j (omega (arith, fw)))) n few)
@@ -207,10 +208,9 @@ module _ (kept : ℕ → Bool) (first : Memory) (P : ℕ → Aim) (backs : Backs
         let ready_a : Ready a (at + 8) = record { fitting = f1.0; reaching = w1.0; roomy = sq.0; words = stands_front kept first (at + 8) (code a (at + 8)) tail body } in
         let ready_r : Ready r end = record { fitting = f1.1; reaching = w1.1; roomy = sq.1; words = subst (λ n. StandsAs kept first n (code r end)) er turn.1.1 } in
         let rest = part b end (at + 4 * (4 + size a + size r)) K G r end least (walk r) ready_r refl fin o in
-        let least2 : 4 * most ≤ b + 2 = omega arith in
         at_rest s raw p at n e (none_pending p (Loop t a r) clr refl)
         (turns h.0 t at back end (λ L. Meets kept C a (at + 8) L G) (Meets kept C r end K G) G b least
-        (λ L m km q w j fw. walk a (at + 8) L G (b + 2) m m.regs None least2 refl refl ready_a km (subst (λ x. Open (b + 2) x L G) (sym to) q) w j fw)
+        (λ L m km q w j fw. walk a (at + 8) L G b m m.regs None least refl refl ready_a km (subst (λ x. Open b x L G) (sym to) q) w j fw)
         (λ L m k w. low kept most C lows a (at + 8) L G m k o.low_jump w)
         (λ j m km y q. passed_by kept first P backs j t m at end km st.0 st.1.0 f0.0 y q)
         (λ j m km y q. taken kept first P backs j (opposite t) m at end km st.0 st.1.0 (opposite_fits t f0.0) near.0 (even_16 at (size a) st.0.aligned) y q)
@@ -246,7 +246,7 @@ module _ (kept : ℕ → Bool) (first : Memory) (P : ℕ → Aim) (backs : Backs
   ready : (T : Tree) (at : ℕ) → IsPlaced kept first at T → Ready T at
   ready T at p = record { fitting = p.fitting; reaching = p.reaching; roomy = tree_spaced T [] refl p.roomy; words = as_code kept first at (code T at) p.words }
 
-  walk_calls : (ls : List (ℕ × Tree)) → ArePlaced kept first ls → (a ret : ℕ) (K : Goal) (b : ℕ) (s : Run) → 4 * most ≤ b → Keeps kept first s → Low most K → ((e : Run) → Keeps kept first e → K e → At b e ret) → calls kept ls a ret K s → At b s a
+  walk_calls : (ls : List (ℕ × Tree)) → ArePlaced kept first ls → (a ret : ℕ) (K : Goal) (b : ℕ) (s : Run) → most ≤ b → Keeps kept first s → Low most K → ((e : Run) → Keeps kept first e → K e → At b e ret) → calls kept ls a ret K s → At b s a
   walk_calls [] pl a ret K b s least ks lw o h = absurd h
   walk_calls (l ∷ ls) pl a ret K b s least ks lw o h =
       let w = walk (calls kept ls) (walk_calls ls pl.1) (low_calls kept most ls) l.1 l.0 (λ _. ⊥) (λ b m. (b ≡ ret) × K m) b s s.regs None least refl refl (ready l.1 l.0 pl.0) ks (record {
@@ -255,14 +255,14 @@ module _ (kept : ℕ → Bool) (first : Memory) (P : ℕ → Aim) (backs : Backs
         here = λ e ke z. absurd z;
         jump = λ a e ke z. subst (λ n. At b e n) (sym z.0) (o e ke z.1);
       }) in
-      split (nat_eq a l.0) refl (λ e k. subst (λ n. At b s n) (sym (eqb-true a l.0 e)) (w k)) (λ k. walk_calls ls pl.1 a ret K b s least ks lw o k) h
+      split (nat_eq a l.0) refl (λ e k. subst (λ n. At b s n) (sym (eqb-true a l.0 e)) (w (meets_back kept (calls kept ls) (fair kept ls) l.1 l.0 (λ _. ⊥) (λ b m. (b ≡ ret) × K m) s k))) (λ k. walk_calls ls pl.1 a ret K b s least ks lw o k) h
     where
       split : {X Y Z : Type 0} (v : Bool) → nat_eq a l.0 ≡ v → (nat_eq a l.0 ≡ true → X → Z) → (Y → Z) → cond v X Y → Z
       split true e f g h = f e h
       split false e f g h = g h
 
   -- It is shown from a state at a listing, where it is from the states of the listing's goals.
-  pub walk_placed : (ls : List (ℕ × Tree)) → ArePlaced kept first ls → (T : Tree) (at : ℕ) (K : Goal) (G : ℕ → Goal) (b : ℕ) (s : Run) → 4 * most ≤ b → IsPlaced kept first at T → Keeps kept first s → Open b (at + 4 * size T) K G
+  pub walk_placed : (ls : List (ℕ × Tree)) → ArePlaced kept first ls → (T : Tree) (at : ℕ) (K : Goal) (G : ℕ → Goal) (b : ℕ) (s : Run) → most ≤ b → IsPlaced kept first at T → Keeps kept first s → Open b (at + 4 * size T) K G
       → Meets kept (calls kept ls) T at K G s → At b s at
   walk_placed ls pl T at K G b s least p ks o h = walk (calls kept ls) (walk_calls ls pl) (low_calls kept most ls) T at K G b s s.regs None least refl refl (ready T at p) ks o h
 

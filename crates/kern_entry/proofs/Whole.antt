@@ -42,7 +42,7 @@ use Rattle.kern_entry.specs.Within.{Aim, Within}
 use Rattle.kern_entry.specs.Made.{Made}
 use Rattle.kern_entry.specs.Tables.{destination, TableAt, TablesRead}
 use Rattle.kern_entry.specs.EntryLaws.{KeepsRest, AtRoutine, Begins, StaysBegin, kernel_at}
-use Rattle.kern_entry.proofs.WorkArea.{held, Holds, Entered}
+use Rattle.kern_entry.proofs.WorkArea.{held, AreaHolds, Entered}
 use Rattle.kern_entry.proofs.Saving.{Arrived, vector_meets, save_meets}
 use Rattle.kern_entry.proofs.Choosing.{arrival, causes_meets}
 use Rattle.kern_entry.proofs.Lookup.{Called, call_a_meets, call_b_meets, call_c_meets}
@@ -75,7 +75,7 @@ word_kept m e p ke low =
 table_kept : (go : CallId → ℕ) (m : Memory) (e : Run) (T : Table) (at count : ℕ) → Keeps kernel_words m e → at + 4 * count ≤ 0xB000 → TableAt go m T at count → TableAt go e.bytes T at count
 table_kept go m e T at count ke low t = λ n lt. word_kept m e (at + 4 * n) ke (omega arith) ∙ t n lt
 
-further : (c : Registers) (pc : ℕ) (on : Bool) (m : Memory) (p : List Access) (most more : ℕ) (e : Run) → most ≤ more → Holds c pc on m p most e → Holds c pc on m p more e
+further : (c : Registers) (pc : ℕ) (on : Bool) (m : Memory) (p : List Access) (most more : ℕ) (e : Run) → most ≤ more → AreaHolds c pc on m p most e → AreaHolds c pc on m p more e
 further c pc on m p most more e le h = record { area = h.area; spared = h.spared; ports = h.ports; within = omega (arith, h.within) }
 
 further_in : (c : Registers) (z : Cop0) (on : Bool) (m : Memory) (p : List Access) (most more : ℕ) (e : Run) → most ≤ more → Entered c z on m p most e → Entered c z on m p more e
@@ -161,21 +161,21 @@ module _ (go : CallId → ℕ) (m : Memory) (all : AllPlaced m) (tables : Tables
       walks m (Z stay) tr at (λ _. ⊥) (λ to x. Called go T (table_number T) c z on m [] 100 to x) e pl ke (λ x b. absurd b) (λ a x g. low x g.entered) (λ x kx b. absurd b)
       (λ a x kx g. subst (λ n. Show stay x n) (sym g.to_is) (called out T (served_call T c.r9) x kx g.entered g.table_is)) me
     where
-      low : (x : Run) → Entered c z on m [] 100 x → x.passed ≤ 200
+      low : (x : Run) → Entered c z on m [] 100 x → x.steps ≤ 200
       low x h = omega (arith, h.holds.within)
 
   -- a SYSCALL by its number
   abbrev behind : ℕ
   behind = (epc_of s.running.context + 4) % 2 ^ 32
 
-  sys_goes : (n : ℕ) (d : Registers) (off : Bool) (e : Run) → Keeps kernel_words m e → KeepsRest s (syscall n t) → Returns (syscall n t) d behind off [] → ((x : Run) → SysStops n z.epc m [] 130 x → ⊥) → ((to : ℕ) (x : Run) → SysGoes n c z.epc on m [] 130 to x → (to ≡ BEHIND) × Holds d z.epc off m [] 130 x)
+  sys_goes : (n : ℕ) (d : Registers) (off : Bool) (e : Run) → Keeps kernel_words m e → KeepsRest s (syscall n t) → Returns (syscall n t) d behind off [] → ((x : Run) → SysStops n z.epc m [] 130 x → ⊥) → ((to : ℕ) (x : Run) → SysGoes n c z.epc on m [] 130 to x → (to ≡ BEHIND) × AreaHolds d z.epc off m [] 130 x)
       → Meets kernel_words (calls kernel_words []) (tree SYSCALLS_NODES) SYSCALLS (λ x. SysStops n z.epc m [] 130 x) (λ to x. SysGoes n c z.epc on m [] 130 to x) e → Show (syscall n t) e SYSCALLS
   sys_goes n d off e ke own r none goes me =
       let stay = syscall n t in
       walks m (Z stay) (tree SYSCALLS_NODES) SYSCALLS (λ x. SysStops n z.epc m [] 130 x) (λ to x. SysGoes n c z.epc on m [] 130 to x) e all.syscalls ke (λ x b. absurd (none x b)) (λ a x g. low x (goes a x g).1) (λ x kx b. absurd (none x b))
       (λ a x kx g. let f = goes a x g in subst (λ y. Show stay x y) (sym f.0) (behind_shown m all stay (Z stay) (mine stay own) d z.epc off [] x kx f.1 r)) me
     where
-      low : (x : Run) → Holds d z.epc off m [] 130 x → x.passed ≤ 200
+      low : (x : Run) → AreaHolds d z.epc off m [] 130 x → x.steps ≤ 200
       low x h = omega (arith, h.within)
 
   sys_shown : (n : ℕ) (e : Run) → Keeps kernel_words m e → Entered c z on m [] 100 e → e.regs.r4 ≡ n → Show (syscall n t) e SYSCALLS
@@ -213,39 +213,39 @@ module _ (go : CallId → ℕ) (m : Memory) (all : AllPlaced m) (tables : Tables
   abbrev whole : Stay
   whole = by_entrance own code t
 
-  causes_shown : (code ≡ 8 → s.running.context.in_slot ≡ false → is_mirrored z.epc ≡ true) → (e : Run) → Keeps kernel_words m e → Entered c z on m [] 40 e → Show whole e CAUSES
+  causes_shown : (code ≡ 8 → s.running.context.in_slot ≡ false → is_mirrored z.epc ≡ true) → (e : Run) → Keeps kernel_words m e → Entered c z on m [] 42 e → Show whole e CAUSES
   causes_shown mirror e ke h =
       walks m (Z whole) (tree CAUSES_NODES) CAUSES (λ _. ⊥) (λ to x. (to ≡ arrival own) × Entered c z on m [] 80 x) e all.causes ke (λ x b. absurd b) (λ a x g. low x g.1) (λ x kx b. absurd b)
-      (λ a x kx g. subst (λ n. Show whole x n) (sym g.0) (arrived own refl x kx g.1)) (causes_meets c code s.running.context.in_slot z on m [] 40 80 e h refl small mirror (omega arith))
+      (λ a x kx g. subst (λ n. Show whole x n) (sym g.0) (arrived own refl x kx g.1)) (causes_meets c code s.running.context.in_slot z on m [] 42 80 e h refl small mirror (omega arith))
     where
-      low : (x : Run) → Entered c z on m [] 80 x → x.passed ≤ 200
+      low : (x : Run) → Entered c z on m [] 80 x → x.steps ≤ 200
       low x g = omega (arith, g.holds.within)
 
-  save_shown : z.sr ≡ saved_sr_of on → (code ≡ 8 → s.running.context.in_slot ≡ false → is_mirrored z.epc ≡ true) → (e : Run) → Keeps kernel_words m e → Arrived c z m 1 e → Show whole e SAVE
+  save_shown : z.sr ≡ saved_sr_of on → (code ≡ 8 → s.running.context.in_slot ≡ false → is_mirrored z.epc ≡ true) → (e : Run) → Keeps kernel_words m e → Arrived c z m 2 e → Show whole e SAVE
   save_shown as_saved mirror e ke h =
-      walks m (Z whole) (tree SAVE_NODES) SAVE (λ _. ⊥) (λ to x. (to ≡ CAUSES) × Entered e.regs e.cop0 on e.bytes [] 40 x) e all.save ke (λ x b. absurd b) (λ a x g. low x g.1) (λ x kx b. absurd b)
-      (λ a x kx g. subst (λ n. Show whole x n) (sym g.0) (causes_shown mirror x kx (same x g.1))) (save_meets e on 40 (ap (λ y. y.sr) h.cop0 ∙ as_saved) h.seen (omega (arith, h.within)))
+      walks m (Z whole) (tree SAVE_NODES) SAVE (λ _. ⊥) (λ to x. (to ≡ CAUSES) × Entered e.regs e.cop0 on e.bytes [] 42 x) e all.save ke (λ x b. absurd b) (λ a x g. low x g.1) (λ x kx b. absurd b)
+      (λ a x kx g. subst (λ n. Show whole x n) (sym g.0) (causes_shown mirror x kx (same x g.1))) (save_meets e on 42 (ap (λ y. y.sr) h.cop0 ∙ as_saved) h.seen (omega (arith, h.within)))
     where
-      low : (x : Run) → Entered e.regs e.cop0 on e.bytes [] 40 x → x.passed ≤ 200
+      low : (x : Run) → Entered e.regs e.cop0 on e.bytes [] 42 x → x.steps ≤ 200
       low x g = omega (arith, g.holds.within)
 
-      same : (x : Run) → Entered e.regs e.cop0 on e.bytes [] 40 x → Entered c z on m [] 40 x
+      same : (x : Run) → Entered e.regs e.cop0 on e.bytes [] 42 x → Entered c z on m [] 42 x
       same x g =
-          let P : Registers → Type 0 = λ y. Entered y e.cop0 on e.bytes [] 40 x in
-          let Q : Cop0 → Type 0 = λ y. Entered c y on e.bytes [] 40 x in
-          let R : Memory → Type 0 = λ y. Entered c z on y [] 40 x in
+          let P : Registers → Type 0 = λ y. Entered y e.cop0 on e.bytes [] 42 x in
+          let Q : Cop0 → Type 0 = λ y. Entered c y on e.bytes [] 42 x in
+          let R : Memory → Type 0 = λ y. Entered c z on y [] 42 x in
           subst R h.bytes (subst Q h.cop0 (subst P h.regs g))
 
   -- at the vector
   abbrev first : Run
-  first = record { regs = c; cop0 = z; bytes = m; seen = []; passed = 0 }
+  first = record { regs = c; cop0 = z; bytes = m; seen = []; passed = 0; steps = 0 }
 
   pub vector_shown : z.sr ≡ saved_sr_of on → z.sr % 2 ≡ 0 → (code ≡ 8 → s.running.context.in_slot ≡ false → is_mirrored z.epc ≡ true) → Show whole first VECTOR
   vector_shown as_saved off mirror =
-      walks m (Z whole) (tree VECTOR_NODES) VECTOR (λ _. ⊥) (λ to x. (to ≡ SAVE) × Arrived c z m 1 x) first all.vector (record { bytes = λ x e. refl; masked = off }) (λ x b. absurd b) (λ a x g. low x g.1) (λ x kx b. absurd b)
-      (λ a x kx g. subst (λ n. Show whole x n) (sym g.0) (save_shown as_saved mirror x kx g.1)) (vector_meets first 1 refl (omega arith))
+      walks m (Z whole) (tree VECTOR_NODES) VECTOR (λ _. ⊥) (λ to x. (to ≡ SAVE) × Arrived c z m 2 x) first all.vector (record { bytes = λ x e. refl; masked = off }) (λ x b. absurd b) (λ a x g. low x g.1) (λ x kx b. absurd b)
+      (λ a x kx g. subst (λ n. Show whole x n) (sym g.0) (save_shown as_saved mirror x kx g.1)) (vector_meets first 2 refl (omega arith))
     where
-      low : (x : Run) → Arrived c z m 1 x → x.passed ≤ 200
+      low : (x : Run) → Arrived c z m 2 x → x.steps ≤ 200
       low x g = omega (arith, g.within)
 
 -- ---- an entry
@@ -274,11 +274,11 @@ stays_begin go k s trap h =
     let m : Memory = k.bytes in
     let x : Context = s.running.context in
     let bad : ℕ = unwrap_or trap.bad k.processor.cop0.bad_address in
-    let made : Core → Type 0 = λ y. Within (Begins go m s (by_entrance (entrance_of x trap.code) trap.code (settled_state s))) 802 y [] in
+    let made : Core → Type 0 = λ y. Within (Begins go m s (by_entrance (entrance_of x trap.code) trap.code (settled_state s))) 202 y [] in
     let cop : ℕ → Cop0 = λ sr. record { sr = entered_sr sr; cause = cause_of trap.code x.in_slot; epc = epc_of x; bad_address = bad } in
     let at : ℕ → ℕ → Core = λ sr pc. record { processor = record { context = placed (settle x) pc; cop0 = cop sr; latch = true }; bytes = m } in
     let begun : made (at (user_sr on) VECTOR) =
-    vector_shown go m (all_placed m h.words) h.tables s trap.code (entered_sr (user_sr on)) bad h.code (sr_entered on) (sr_off on) (λ e out. mirror_of x out (h.mirrored e out)) 802 (omega arith) in
+    vector_shown go m (all_placed m h.words) h.tables s trap.code (entered_sr (user_sr on)) bad h.code (sr_entered on) (sr_off on) (λ e out. mirror_of x out (h.mirrored e out)) 202 (omega arith) in
     let placed_there : made (at (user_sr on) (vector (user_sr on))) = subst (λ a. made (at (user_sr on) a)) (sym (vector_is on)) begun in
     let by_sr : made (at k.processor.cop0.sr (vector k.processor.cop0.sr)) = subst (λ a. made (at a (vector a))) (sym h.sr) placed_there in
     subst (λ a. made (record k { processor = enter (record k.processor { context = a }) trap })) (sym h.context) by_sr

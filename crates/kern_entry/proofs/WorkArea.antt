@@ -22,16 +22,16 @@ use Rattle.kern_entry.specs.Made.{Spared}
 abbrev pub held : Registers → ℕ → Bool → ThreadContext
 held c pc on = record { context = record { regs = c; pending = None; pc = pc; next = (pc + 4) % 2 ^ 32; in_slot = false }; interrupts = on }
 
--- The work area holds a context, the rest of memory is as at the entry, and the accesses to ports so far are these. At most so many nodes are passed.
-pub record Holds (c : Registers) (pc : ℕ) (on : Bool) (m : Memory) (p : List Access) (most : ℕ) (e : Run) : Type 0 where
+-- The work area holds a context, the rest of memory is as at the entry, and the accesses to ports so far are these. At most so many steps are made.
+pub record AreaHolds (c : Registers) (pc : ℕ) (on : Bool) (m : Memory) (p : List Access) (most : ℕ) (e : Run) : Type 0 where
   pub area : Block (word e.bytes) 0xEB00 (saved (held c pc on))
   pub spared : Spared m e.bytes
   pub ports : ports e.seen ≡ p
-  pub within : e.passed ≤ most
+  pub within : e.steps ≤ most
 
 -- The same, while the registers that a call is told by are the program's, and coprocessor 0 as at the entry.
 pub record Entered (c : Registers) (z : Cop0) (on : Bool) (m : Memory) (p : List Access) (most : ℕ) (e : Run) : Type 0 where
-  pub holds : Holds c z.epc on m p most e
+  pub holds : AreaHolds c z.epc on m p most e
   pub r2 : e.regs.r2 ≡ c.r2
   pub r4 : e.regs.r4 ≡ c.r4
   pub r9 : e.regs.r9 ≡ c.r9
@@ -105,14 +105,14 @@ stored (f ∷ fs) w = stored fs (KernelWord (0xEB00 + f.0) f.1 ∷ w)
 
 -- ---- registers changed, memory read, and nothing else
 
-pub holds_on : (c : Registers) (pc : ℕ) (on : Bool) (m : Memory) (p : List Access) (most more : ℕ) (s : Run) → Holds c pc on m p most s → (d : Registers) (z : Cop0) (q : List Access) (n : ℕ) → ports q ≡ ports s.seen → n ≤ more
-    → Holds c pc on m p more (record { regs = d; cop0 = z; bytes = s.bytes; seen = q; passed = n })
-holds_on c pc on m p most more s h d z q n e few = record { area = h.area; spared = h.spared; ports = e ∙ h.ports; within = few }
+pub holds_on : (c : Registers) (pc : ℕ) (on : Bool) (m : Memory) (p : List Access) (most more : ℕ) (s : Run) → AreaHolds c pc on m p most s → (d : Registers) (z : Cop0) (q : List Access) (passed n : ℕ) → ports q ≡ ports s.seen → n ≤ more
+    → AreaHolds c pc on m p more (record { regs = d; cop0 = z; bytes = s.bytes; seen = q; passed = passed; steps = n })
+holds_on c pc on m p most more s h d z q passed n e few = record { area = h.area; spared = h.spared; ports = e ∙ h.ports; within = few }
 
-pub entered_on : (c : Registers) (z : Cop0) (on : Bool) (m : Memory) (p : List Access) (most more : ℕ) (s : Run) → Entered c z on m p most s → (d : Registers) (q : List Access) (n : ℕ) → d.r2 ≡ s.regs.r2 → d.r4 ≡ s.regs.r4 → d.r9 ≡ s.regs.r9 → d.r31 ≡ s.regs.r31 → (d.r5 ≡ s.regs.r5) × (d.r6 ≡ s.regs.r6) × (d.r7 ≡ s.regs.r7) × (d.r29 ≡ s.regs.r29) → ports q ≡ ports s.seen → n ≤ more
-    → Entered c z on m p more (record { regs = d; cop0 = s.cop0; bytes = s.bytes; seen = q; passed = n })
-entered_on c z on m p most more s h d q n e2 e4 e9 e31 a e few = record {
-  holds = holds_on c z.epc on m p most more s h.holds d s.cop0 q n e few;
+pub entered_on : (c : Registers) (z : Cop0) (on : Bool) (m : Memory) (p : List Access) (most more : ℕ) (s : Run) → Entered c z on m p most s → (d : Registers) (q : List Access) (passed n : ℕ) → d.r2 ≡ s.regs.r2 → d.r4 ≡ s.regs.r4 → d.r9 ≡ s.regs.r9 → d.r31 ≡ s.regs.r31 → (d.r5 ≡ s.regs.r5) × (d.r6 ≡ s.regs.r6) × (d.r7 ≡ s.regs.r7) × (d.r29 ≡ s.regs.r29) → ports q ≡ ports s.seen → n ≤ more
+    → Entered c z on m p more (record { regs = d; cop0 = s.cop0; bytes = s.bytes; seen = q; passed = passed; steps = n })
+entered_on c z on m p most more s h d q passed n e2 e4 e9 e31 a e few = record {
+  holds = holds_on c z.epc on m p most more s h.holds d s.cop0 q passed n e few;
   r2 = e2 ∙ h.r2;
   r4 = e4 ∙ h.r4;
   r9 = e9 ∙ h.r9;

@@ -11,14 +11,14 @@ use Rattle.kern_layout.specs.Numbers.{work_area}
 use Rattle.kern_layout.specs.Fields.{Block}
 use Rattle.kern_layout.specs.Contexts.{saved}
 use Rattle.kern_layout.specs.Stands.{user_sr}
-use Rattle.psx_base.specs.declared.stop.Stop.TheVariants.{BadPointer}
+use Rattle.psx_base.specs.declared.stop.Stop.TheVariants.{BadPointer, BadThread, Deep}
 use Rattle.psx_flow.specs.Run.{Access}
 use Rattle.psx_flow.specs.Told.{ports}
 use Rattle.abs_kernel.specs.declared.calls.CallId.{CallId}
 use Rattle.abs_kernel.specs.Stay.{Stay, Return, Halt}
 use Rattle.abs_kernel.specs.StayLaws.{EachEnd}
 use Rattle.abs_kernel.specs.Calls.{call}
-use Rattle.kern_stay.specs.declared.places.TheConstants.{WAIT, BAD_POINTER}
+use Rattle.kern_stay.specs.declared.places.TheConstants.{WAIT, BAD_POINTER, BAD_THREAD, DEEP}
 use Rattle.kern_stay.specs.Doors.{called_with}
 use Rattle.abs_kernel.specs.Answered.{registers_of, with_answer}
 use Rattle.abs_kernel.specs.KernelStep.{settled_state, stay_of}
@@ -49,8 +49,8 @@ pub record Enters (at : CallId → ℕ) (k : Core) (s : KernelState) (trap : Tra
   pub tables : TablesRead at k.bytes
 
 -- how many steps there are from the vector to a routine, to the return or to the halt
-abbrev pub most_steps : ℕ
-most_steps = 802
+abbrev pub most_entry_steps : ℕ
+most_entry_steps = 202
 
 -- a stay that changes the running context alone
 abbrev pub KeepsRest : KernelState → Stay → Type 0
@@ -75,7 +75,7 @@ Begins at first s stay k q = (KeepsRest s stay × Made first stay k q) ⊎ AtRou
 
 -- From the vector, whatever the bus brings at each step, the words make the stay of the state and the code, or come to its routine.
 abbrev pub StaysBegin : Type 0
-StaysBegin = (at : CallId → ℕ) (k : Core) (s : KernelState) (trap : Trap) → Enters at k s trap → Within (Begins at k.bytes s (stay_of s trap.code)) most_steps (record k { processor = enter k.processor trap }) []
+StaysBegin = (at : CallId → ℕ) (k : Core) (s : KernelState) (trap : Trap) → Enters at k s trap → Within (Begins at k.bytes s (stay_of s trap.code)) most_entry_steps (record k { processor = enter k.processor trap }) []
 
 -- ---- where routines arrive
 
@@ -86,7 +86,7 @@ pub record HoldsContext (m : Memory) (t : ThreadContext) : Type 0 where
   pub settled : t.context.pending ≡ None
 
 abbrev pub most_leave_steps : ℕ
-most_leave_steps = 282
+most_leave_steps = 72
 
 -- From LEAVE, with interrupts off, the words return to the context, with r2 as its answer and at its r31; its interrupts are as they were.
 abbrev pub LeaveReturns : Type 0
@@ -106,13 +106,23 @@ BadPointerStops =
     (regs : Registers) (z : Cop0) (m u : Memory) (t : ThreadContext) → z.sr % 2 ≡ 0 → HoldsContext m t
     → Within (Made m (Halt (BadPointer regs.r8 t.context.regs.r31) u)) most_leave_steps (kernel_at regs z m BAD_POINTER) []
 
--- exit and putchar, from where they are called
+-- From BAD_THREAD they stop with the handle in r8 and the context's r31.
+abbrev pub BadThreadStops : Type 0
+BadThreadStops =
+    (regs : Registers) (z : Cop0) (m u : Memory) (t : ThreadContext) → z.sr % 2 ≡ 0 → HoldsContext m t
+    → Within (Made m (Halt (BadThread regs.r8 t.context.regs.r31) u)) most_leave_steps (kernel_at regs z m BAD_THREAD) []
+
+-- From DEEP they stop with the address in r31, whatever the work area holds.
+abbrev pub DeepStops : Type 0
+DeepStops = (regs : Registers) (z : Cop0) (m u : Memory) → z.sr % 2 ≡ 0 → HoldsEntry m → Within (Made m (Halt (Deep regs.r31) u)) most_leave_steps (kernel_at regs z m DEEP) []
+
+-- exit, from where it is called
 abbrev pub OwnCalls : (at : ℕ) → (KernelState → Stay) → Type 0
 OwnCalls at stay =
     (s : KernelState) (regs : Registers) (z : Cop0) (m : Memory) → z.sr % 2 ≡ 0 → HoldsContext m s.running
-    → Within (λ k q. KeepsRest s (stay s) × Made m (stay s) k q) most_steps (kernel_at (called_with (registers_of s) regs) z m at) []
+    → Within (λ k q. KeepsRest s (stay s) × Made m (stay s) k q) most_entry_steps (kernel_at (called_with (registers_of s) regs) z m at) []
 
--- From WORK they return to the context as it is: no tasks are kept yet.
+-- From WORK they return to the context as it is: no task is served yet, and none is looked at.
 abbrev pub WorkReturns : Type 0
 WorkReturns =
     (regs : Registers) (z : Cop0) (m : Memory) (t : ThreadContext) (s : KernelState) → z.sr % 2 ≡ 0 → HoldsContext m t → s.running ≡ record { context = taken t.context t.context.pc; interrupts = t.interrupts }

@@ -7,12 +7,10 @@ use Rattle.psx_flow.specs.declared.listings.TheConstants.{READ_BYTE, WRITE_BYTE,
 use Rattle.kern_layout.specs.declared.ranges.TheConstants.{GATE_A, GATE_B, GATE_C, GATE_DONE, GATE_BACK}
 use Rattle.kern_entry.specs.declared.places.TheConstants as place
 use Rattle.kern_entry.specs.declared.save.TheConstants.{VECTOR_NODES, SAVE_NODES, CAUSES_NODES}
-use Rattle.kern_entry.specs.declared.calls.TheConstants.{CALL_A_NODES, CALL_B_NODES, CALL_C_NODES, EXIT_NODES, PUTCHAR_NODES}
-use Rattle.kern_entry.specs.declared.stops.TheConstants.{UNSERVED_NODES, EXCEPTION_NODES, DONE_NODES, BACK_NODES, BAD_POINTER_NODES}
+use Rattle.kern_entry.specs.declared.calls.TheConstants.{CALL_A_NODES, CALL_B_NODES, CALL_C_NODES, EXIT_NODES}
+use Rattle.kern_entry.specs.declared.stops.TheConstants.{UNSERVED_NODES, EXCEPTION_NODES, DONE_NODES, BACK_NODES, BAD_POINTER_NODES, BAD_THREAD_NODES, DEEP_NODES}
 use Rattle.kern_entry.specs.declared.sys.TheConstants.{SYSCALLS_NODES}
 use Rattle.kern_entry.specs.declared.leave.TheConstants.{LEAVE_NODES, BEHIND_NODES, RESUME_NODES, RETURN, WORK_NODES}
-use Rattle.kern_stay.specs.declared.room.TheConstants.{ROOM_NODES}
-use Rattle.kern_stay.specs.declared.copy.TheConstants.{COPY_NODES}
 pub use Rattle.kern_stay.specs.Shared.{tree}
 pub use Rattle.kern_stay.specs.Words.{listing}
 
@@ -38,7 +36,8 @@ leave_pieces =
 -- the routines
 abbrev pub routine_pieces : List (ℕ × List ℕ)
 routine_pieces =
-    listing place.EXIT EXIT_NODES ∷ listing place.DONE DONE_NODES ∷ listing place.BACK BACK_NODES ∷ listing place.PUTCHAR PUTCHAR_NODES ∷ listing place.SYSCALLS SYSCALLS_NODES ∷ listing place.BAD_POINTER BAD_POINTER_NODES ∷ listing place.ROOM ROOM_NODES ∷ listing place.COPY COPY_NODES ∷ []
+    listing place.EXIT EXIT_NODES ∷ listing place.DONE DONE_NODES ∷ listing place.BACK BACK_NODES ∷ listing place.SYSCALLS SYSCALLS_NODES ∷ listing place.BAD_POINTER BAD_POINTER_NODES
+    ∷ listing place.BAD_THREAD BAD_THREAD_NODES ∷ listing place.DEEP DEEP_NODES ∷ []
 
 -- the four accesses to user memory
 abbrev pub tested_pieces : List (ℕ × List ℕ)

@@ -53,5 +53,11 @@ pub const CODE_UNSERVED: u16 = 3;
 /// An address that isn't user memory.
 pub const CODE_BAD_POINTER: u16 = 4;
 
+/// A handle that names no thread.
+pub const CODE_BAD_THREAD: u16 = 5;
+
+/// A frame too many.
+pub const CODE_DEEP: u16 = 6;
+
 /// A callback's return where no callback was called.
 pub const CODE_BAD_RETURN: u16 = 7;

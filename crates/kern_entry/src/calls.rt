@@ -1,6 +1,6 @@
 //! The calls: from a gate to the routine that the table has for the number, which is the whole of r9.
 use crate::area;
-use crate::places::{CACHED, LEAVE, UNSERVED};
+use crate::places::{CACHED, UNSERVED};
 use kern_layout::ranges::{TABLE_A, TABLE_B, TABLE_C};
 use psx_flow::{Node, Test, op, register};
 
@@ -41,13 +41,4 @@ pub const EXIT_NODES: [Node; 4] = [
     op!(SW r4, r26, area::PORT_A),
     op!(ADDIU r8, r0, area::CODE_EXIT),
     op!(SW r8, r26, area::PORT_HALT),
-];
-
-/// putchar(c): writes the low byte of r4 to the console, and answers it.
-pub const PUTCHAR_NODES: [Node; 5] = [
-    op!(LUI r26, area::PORTS),
-    op!(SW r4, r26, area::PORT_CONSOLE),
-    op!(SLL r2, r4, 24),
-    op!(SRL r2, r2, 24),
-    Node::Jump(LEAVE),
 ];

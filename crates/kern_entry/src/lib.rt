@@ -15,4 +15,4 @@ pub mod sys;
 #[cfg(test)]
 mod tests;
 
-pub use placing::{place_code, place_vector};
+pub use placing::{apart, place_code, place_vector};

@@ -1,5 +1,4 @@
 //! Where the listings of the entry stand, in the cached segment, in which the kernel runs.
-use kern_layout::places::WORK as WORK_PLACE;
 use kern_layout::ranges::{ENTRY_CODE, VECTOR as VECTOR_RANGE};
 use kern_stay::places;
 
@@ -40,7 +39,7 @@ pub const BEHIND: u32 = LEAVE + 0x40;
 pub const RESUME: u32 = LEAVE + 0x80;
 
 /// Where a routine arrives with tasks to do.
-pub const WORK: u32 = CACHED + WORK_PLACE;
+pub const WORK: u32 = places::WORK;
 
 /// The end of a program, with its code in r4.
 pub const EXIT: u32 = WORK + 0x40;
@@ -51,20 +50,17 @@ pub const DONE: u32 = WORK + 0x60;
 /// The return of a callback by the gate E0h.
 pub const BACK: u32 = WORK + 0x80;
 
-/// Writes a character to the console.
-pub const PUTCHAR: u32 = WORK + 0xA0;
-
 /// A SYSCALL outside the gates.
 pub const SYSCALLS: u32 = WORK + 0x100;
 
 /// Stops for an address in r8 that isn't user memory.
 pub const BAD_POINTER: u32 = places::BAD_POINTER;
 
-/// Counts the bytes of user memory from an address on.
-pub const ROOM: u32 = places::ROOM;
+/// Stops for a handle in r8 that names no thread.
+pub const BAD_THREAD: u32 = places::BAD_THREAD;
 
-/// Copies words of the kernel's data.
-pub const COPY: u32 = places::COPY;
+/// Stops for a frame too many.
+pub const DEEP: u32 = places::DEEP;
 
 /// The listing that reads a byte of user memory.
 pub const READ_BYTE: u32 = places::READ_BYTE;

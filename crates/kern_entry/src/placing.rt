@@ -5,25 +5,32 @@ ghost use Rattle.psx_flow.specs.Well.{is_well};
 ghost use Rattle.psx_flow.specs.Spaced.{is_spaced};
 ghost use Rattle.psx_flow.specs.Lowered.{reaches};
 ghost use Rattle.kern_layout.specs.BlockWords.{IsBlock};
-ghost use Rattle.kern_stay.specs.Words.{over, overlaid};
+ghost use Rattle.kern_stay.specs.Words.{over, overlaid, EndsBy};
 ghost use Rattle.kern_entry.specs.EntryWords.{gate, return_words, vector_pieces, entry_pieces, leave_pieces, routine_pieces, tested_pieces, code_pieces};
+ghost use Rattle.psx_flow.specs.declared.listings.TheConstants as tested;
+ghost use Rattle.kern_entry.specs.declared.places.TheConstants as place;
+ghost use Rattle.kern_entry.specs.declared.save.TheConstants.{VECTOR_NODES, SAVE_NODES, CAUSES_NODES};
+ghost use Rattle.kern_entry.specs.declared.calls.TheConstants.{CALL_A_NODES, CALL_B_NODES, CALL_C_NODES, EXIT_NODES};
+ghost use Rattle.kern_entry.specs.declared.stops.TheConstants.{UNSERVED_NODES, EXCEPTION_NODES, DONE_NODES, BACK_NODES, BAD_POINTER_NODES, BAD_THREAD_NODES, DEEP_NODES};
+ghost use Rattle.kern_entry.specs.declared.sys.TheConstants.{SYSCALLS_NODES};
+ghost use Rattle.kern_entry.specs.declared.leave.TheConstants.{LEAVE_NODES, BEHIND_NODES, RESUME_NODES, RETURN, WORK_NODES};
 
-use crate::calls::{CALL_A_NODES, CALL_B_NODES, CALL_C_NODES, EXIT_NODES, PUTCHAR_NODES};
+use crate::calls::{CALL_A_NODES, CALL_B_NODES, CALL_C_NODES, EXIT_NODES};
 use crate::leave::{BEHIND_NODES, LEAVE_NODES, RESUME_NODES, RETURN, WORK_NODES};
 use crate::places::{
-    COPY,
-    BACK, BAD_POINTER, BEHIND, CACHED, CALL_A, CALL_B, CALL_C, CAUSES, DONE, EXCEPTION, EXIT,
-    LEAVE, PUTCHAR, READ_BYTE, READ_WORD, RESUME, ROOM, SAVE, SYSCALLS, UNSERVED, VECTOR, WORK,
+    BACK, BAD_POINTER, BAD_THREAD, BEHIND, CACHED, CALL_A, CALL_B, CALL_C, CAUSES, DEEP, DONE,
+    EXCEPTION, EXIT, LEAVE, READ_BYTE, READ_WORD, RESUME, SAVE, SYSCALLS, UNSERVED, VECTOR, WORK,
     WRITE_BYTE, WRITE_WORD,
 };
 use crate::save::{CAUSES_NODES, SAVE_NODES, VECTOR_NODES};
-use crate::stops::{BACK_NODES, BAD_POINTER_NODES, DONE_NODES, EXCEPTION_NODES, UNSERVED_NODES};
+use crate::stops::{
+    BACK_NODES, BAD_POINTER_NODES, BAD_THREAD_NODES, DEEP_NODES, DONE_NODES, EXCEPTION_NODES,
+    UNSERVED_NODES,
+};
 use crate::sys::SYSCALLS_NODES;
 use kern_layout::KernelBlock;
 use kern_layout::ranges::{GATE_A, GATE_B, GATE_BACK, GATE_C, GATE_DONE};
 use kern_stay::placing::{put_listing, put_words};
-use kern_stay::copy::COPY_NODES;
-use kern_stay::room::ROOM_NODES;
 use psx_flow::{listings, register};
 use psx_ins::encode;
 use psx_ins::ins::Ins;
@@ -82,11 +89,10 @@ fn place_leave(block: &mut KernelBlock)
 fn place_routines(block: &mut KernelBlock)
     ensures { (f : ℕ → ℕ) → IsBlock block.old f → IsBlock block.new (overlaid routine_pieces f) }
 {
-    put_listing(block, COPY, &COPY_NODES);
-    put_listing(block, ROOM, &ROOM_NODES);
+    put_listing(block, DEEP, &DEEP_NODES);
+    put_listing(block, BAD_THREAD, &BAD_THREAD_NODES);
     put_listing(block, BAD_POINTER, &BAD_POINTER_NODES);
     put_listing(block, SYSCALLS, &SYSCALLS_NODES);
-    put_listing(block, PUTCHAR, &PUTCHAR_NODES);
     put_listing(block, BACK, &BACK_NODES);
     put_listing(block, DONE, &DONE_NODES);
     put_listing(block, EXIT, &EXIT_NODES);
@@ -110,3 +116,31 @@ pub fn place_code(block: &mut KernelBlock)
     place_leave(block);
     place_entry(block);
 }
+
+/// Each listing ends where the next one begins, or before it, and all of them in the entry's range. It does nothing.
+pub fn apart()
+    ensures vector { EndsBy place.VECTOR VECTOR_NODES 0x800000A0 }
+    ensures save { EndsBy place.SAVE SAVE_NODES place.CAUSES }
+    ensures causes { EndsBy place.CAUSES CAUSES_NODES place.CALL_A }
+    ensures call_a { EndsBy place.CALL_A CALL_A_NODES place.CALL_B }
+    ensures call_b { EndsBy place.CALL_B CALL_B_NODES place.CALL_C }
+    ensures call_c { EndsBy place.CALL_C CALL_C_NODES place.UNSERVED }
+    ensures unserved { EndsBy place.UNSERVED UNSERVED_NODES place.EXCEPTION }
+    ensures exception { EndsBy place.EXCEPTION EXCEPTION_NODES place.LEAVE }
+    ensures leave { EndsBy place.LEAVE LEAVE_NODES place.BEHIND }
+    ensures behind { EndsBy place.BEHIND BEHIND_NODES place.RESUME }
+    ensures resume { EndsBy place.RESUME RESUME_NODES RETURN }
+    ensures return_words { RETURN + 8 ≤ place.WORK }
+    ensures work { EndsBy place.WORK WORK_NODES place.EXIT }
+    ensures exit { EndsBy place.EXIT EXIT_NODES place.DONE }
+    ensures done { EndsBy place.DONE DONE_NODES place.BACK }
+    ensures back { EndsBy place.BACK BACK_NODES place.SYSCALLS }
+    ensures syscalls { EndsBy place.SYSCALLS SYSCALLS_NODES place.BAD_POINTER }
+    ensures bad_pointer { EndsBy place.BAD_POINTER BAD_POINTER_NODES place.BAD_THREAD }
+    ensures bad_thread { EndsBy place.BAD_THREAD BAD_THREAD_NODES place.DEEP }
+    ensures deep { EndsBy place.DEEP DEEP_NODES place.READ_BYTE }
+    ensures read_byte { EndsBy place.READ_BYTE tested.READ_BYTE place.WRITE_BYTE }
+    ensures write_byte { EndsBy place.WRITE_BYTE tested.WRITE_BYTE place.READ_WORD }
+    ensures read_word { EndsBy place.READ_WORD tested.READ_WORD place.WRITE_WORD }
+    ensures write_word { EndsBy place.WRITE_WORD tested.WRITE_WORD 0x80002000 }
+{}

@@ -38,13 +38,31 @@ pub const BACK_NODES: [Node; 4] = [
     op!(SW r8, r26, area::PORT_HALT),
 ];
 
-/// An address in r8 that isn't user memory, and the caller's r31.
-pub const BAD_POINTER_NODES: [Node; 7] = [
-    op!(LUI r26, area::AREA),
-    op!(LW r9, r26, area::REGISTERS + 4 * 31),
+// A stop that names what r8 has, and the caller's r31.
+macro_rules! stop {
+    ($code:expr) => {
+        [
+            op!(LUI r26, area::AREA),
+            op!(LW r9, r26, area::REGISTERS + 4 * 31),
+            op!(LUI r26, area::PORTS),
+            op!(SW r8, r26, area::PORT_A),
+            op!(SW r9, r26, area::PORT_B),
+            op!(ADDIU r8, r0, $code),
+            op!(SW r8, r26, area::PORT_HALT),
+        ]
+    };
+}
+
+/// An address in r8 that isn't user memory.
+pub const BAD_POINTER_NODES: [Node; 7] = stop!(area::CODE_BAD_POINTER);
+
+/// A handle in r8 that names no thread.
+pub const BAD_THREAD_NODES: [Node; 7] = stop!(area::CODE_BAD_THREAD);
+
+/// A frame too many, with the address in r31.
+pub const DEEP_NODES: [Node; 4] = [
     op!(LUI r26, area::PORTS),
-    op!(SW r8, r26, area::PORT_A),
-    op!(SW r9, r26, area::PORT_B),
-    op!(ADDIU r8, r0, area::CODE_BAD_POINTER),
+    op!(SW r31, r26, area::PORT_A),
+    op!(ADDIU r8, r0, area::CODE_DEEP),
     op!(SW r8, r26, area::PORT_HALT),
 ];

@@ -1,7 +1,7 @@
 //! Words of the block behind `place`, encoded by hand from the R3000A manual's instruction formats.
 use crate::law::{own_calls, routines_return, stays_begin};
 use crate::stepwise::words_walk;
-use crate::{place_code, place_vector};
+use crate::{apart, place_code, place_vector};
 use kern_layout::KernelBlock;
 use std::test::Fail;
 
@@ -34,4 +34,5 @@ fn laws_do_nothing() {
     own_calls();
     routines_return();
     words_walk();
+    apart();
 }

@@ -1,2 +1,3 @@
-pub mod PutsMeets
+pub mod A3cPutchar
+pub mod A3ePuts
 pub mod Served

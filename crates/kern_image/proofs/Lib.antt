@@ -1,4 +1,5 @@
 pub mod Bytes
+pub mod PlaceSearch
 pub mod Pieces
 pub mod RomLemmas
 pub mod Fixed
@@ -21,5 +22,6 @@ pub mod StaysServed
 pub mod StaysLoops
 pub mod StaysEnter
 pub mod StaysHeld
+pub mod StaysCalls
 pub mod ServesEvery
 pub mod StaysAll

@@ -1,13 +1,13 @@
 -- The ROM serves every entry, by what is proved of its bytes, its boot code and its stays.
 use Rattle.std.proofs.Common.{arith}
 use Rattle.abs_run.specs.RunLaws.{always}
-use Rattle.abs_run.specs.Serves.{GatesRead, Serves}
+use Rattle.abs_run.specs.Serves.{GatesRead, ServesRom}
 use Rattle.kern_image.specs.Rom.{rom}
 use Rattle.kern_image.specs.RomLaws.{BytesFit}
 use Rattle.kern_image.specs.Boot.{boot_length, EachBoots}
 use Rattle.kern_image.specs.StaysLaws.{MakesStays}
 
-pub serves : BytesFit → GatesRead rom → EachBoots → MakesStays rom → Serves always rom
+pub serves : BytesFit → GatesRead rom → EachBoots → MakesStays rom → ServesRom always rom
 serves bytes gates boots stays = record {
   bytes = bytes;
   gates = gates;

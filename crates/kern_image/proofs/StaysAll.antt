@@ -1,4 +1,4 @@
--- Each call by its routine, and each entry by its stay.
+-- Each entry by its stay.
 use Rattle.std.proofs.Common.{◌≡◌, ℕ, ◌+◌, ◌-◌, List, [], false, refl, sym, ap, ◌∙◌, subst, arith, inl, inr}
 use Rattle.psx_base.specs.declared.ports.TheConstants.{HALT_A, HALT_B, HALT_C}
 use Rattle.psx_base.specs.Context.{settle}
@@ -11,8 +11,6 @@ use Rattle.psx_flow.specs.Told.{ports}
 use Rattle.kern_layout.specs.Stands.{SameUser, Stands, HoldsRom}
 use Rattle.kern_layout.specs.Valid.{Valid}
 use Rattle.kern_layout.proofs.Written.{reads_free}
-use Rattle.abs_kernel.specs.declared.calls.CallId.{CallId}
-use Rattle.abs_kernel.specs.declared.calls.CallId.TheVariants.{A06, A2B, A2E, A2F, A30, A3A, A3C, A3E, B38, B3D, B3F}
 use Rattle.abs_kernel.specs.Calls.{call}
 use Rattle.abs_kernel.specs.Cause.{entry_of}
 use Rattle.abs_kernel.specs.KernelStep.{settled_state, stay_of}
@@ -28,10 +26,7 @@ use Rattle.kern_stay.specs.Follows.{after, Follows, given}
 use Rattle.kern_stay.specs.Doors.{Holds, Arrives}
 use Rattle.kern_stay.proofs.Telling.{after_ports, follows_ports, given_ports}
 use Rattle.kern_entry.specs.EntryLaws.{AtRoutine, Begins}
-use Rattle.kern_entry.proofs.Joins.{exit_called, putchar_called}
 use Rattle.kern_entry.proofs.Whole.{stays_begin}
-use Rattle.kern_mem.proofs.Served.{mem_serves}
-use Rattle.kern_file.proofs.Served.{file_serves}
 use Rattle.kern_image.specs.Rom.{rom}
 use Rattle.kern_image.specs.StaysLaws.{MakesStays}
 use Rattle.kern_image.specs.Tables.{routine_of}
@@ -40,24 +35,9 @@ use Rattle.kern_image.proofs.StaysMade.{Shows, made_shows}
 use Rattle.kern_image.proofs.StaysStage.{aimed_shows, going_shows}
 use Rattle.kern_image.proofs.StaysStand.{back, bound_by_least, spared_user, spared_word, fixed_below}
 use Rattle.kern_image.proofs.StaysDoors.{at_core, IsValid}
-use Rattle.kern_image.proofs.StaysServed.{Serving, by_listing, by_own}
-use Rattle.kern_image.proofs.StaysLoops.{by_loop}
+use Rattle.kern_image.proofs.StaysCalls.{served}
 use Rattle.kern_image.proofs.StaysEnter.{may_enter}
-use Rattle.kern_image.proofs.StaysHeld.{holds_entry, holds_mem, holds_file, tables_read}
-
--- one line a call
-served : (m : Memory) (code : HoldsRom m rom) (id : CallId) → Serving rom m (holds_entry m code) code (call id) (routine_of id)
-served m code A06 = by_own rom m (holds_entry m code) code (call A06) (routine_of A06) exit_called
-served m code A2B = by_listing rom m (holds_entry m code) code (call A2B) (routine_of A2B) (mem_serves m (holds_mem m code)).memset
-served m code A2E = by_listing rom m (holds_entry m code) code (call A2E) (routine_of A2E) (mem_serves m (holds_mem m code)).memchr
-served m code A2F = by_listing rom m (holds_entry m code) code (call A2F) (routine_of A2F) (mem_serves m (holds_mem m code)).rand
-served m code A30 = by_listing rom m (holds_entry m code) code (call A30) (routine_of A30) (mem_serves m (holds_mem m code)).srand
-served m code A3A = by_own rom m (holds_entry m code) code (call A3A) (routine_of A3A) exit_called
-served m code A3C = by_own rom m (holds_entry m code) code (call A3C) (routine_of A3C) putchar_called
-served m code A3E = by_loop rom m (holds_entry m code) code (call A3E) (routine_of A3E) (file_serves m (holds_file m code)).puts
-served m code B38 = by_own rom m (holds_entry m code) code (call B38) (routine_of B38) exit_called
-served m code B3D = by_own rom m (holds_entry m code) code (call B3D) (routine_of B3D) putchar_called
-served m code B3F = by_loop rom m (holds_entry m code) code (call B3F) (routine_of B3F) (file_serves m (holds_file m code)).puts
+use Rattle.kern_image.proofs.StaysHeld.{holds_entry, tables_read}
 
 module _ (k : Core) (s : KernelState) (trap : Trap) (a b c : ℕ) (valid : Valid s) (fits : CoreFits k) (stands : Stands (side_of k) k.bytes s rom) (enters : MayEnter s trap) where
   abbrev stay : Stay
@@ -99,16 +79,16 @@ module _ (k : Core) (s : KernelState) (trap : Trap) (a b c : ℕ) (valid : Valid
       let there : Runs rom stay n (record { core = j; a = given HALT_A a q; b = given HALT_B b q; c = given HALT_C c q }) = subst F (λ i. record { core = j; a = sym A i; b = sym B i; c = sym C i }) h in
       going_shows rom stay a b c n j q (follows_ports stay q (subst (Follows stay) (sym e) tt), subst (λ y. Runs rom y n (record { core = j; a = given HALT_A a q; b = given HALT_B b q; c = given HALT_C c q })) (sym is) there)
 
-  shown : (j : Core) (q : List Access) → Begins routine_of k.bytes s stay j q → Shows rom stay a b c 19000 j q
+  shown : (j : Core) (q : List Access) → Begins routine_of k.bytes s stay j q → Shows rom stay a b c 20278 j q
   shown j q (inl y) =
       made_shows rom stay a b c k.bytes (λ x. x ≡ record s { running = x.running }) (λ stop memory. memory ≡ s.memory) y.0 (λ state next e i. back k.bytes (side_of k) s rom valid stands state next e i)
-      (λ stop memory i e sp. spared_user k.bytes i.bytes memory (subst (SameUser k.bytes) (sym e) stands.user) sp) 18999 j q y.1
+      (λ stop memory i e sp. spared_user k.bytes i.bytes memory (subst (SameUser k.bytes) (sym e) stands.user) sp) 20277 j q y.1
   shown j q (inr x) =
       let code : HoldsRom j.bytes rom = λ p f. (let low = fixed_below p f in x.spared p (inl (omega arith))) ∙ stands.code p f in
       let ok : IsValid (call x.id t) = subst IsValid x.is (valid_kept s trap.code valid) in
       let r = served j.bytes code x.id a b c t x.regs x.cop0 ok (arrived j.bytes x.out (held j q x)) x.off in
-      let r2 : Runs rom (call x.id t) 19000 (at_core rom a b c j) = subst (λ y. Runs rom (call x.id t) 19000 (at_core rom a b c y)) (sym x.core) r in
-      quiet_shows 19000 j q x.quiet (subst (λ y. Runs rom y 19000 (at_core rom a b c j)) (sym x.is) r2)
+      let r2 : Runs rom (call x.id t) 20278 (at_core rom a b c j) = subst (λ y. Runs rom (call x.id t) 20278 (at_core rom a b c y)) (sym x.core) r in
+      quiet_shows 20278 j q x.quiet (subst (λ y. Runs rom y 20278 (at_core rom a b c j)) (sym x.is) r2)
 
   pub stay_served : Runs rom stay (bound_of s trap.code) (entered k trap a b c)
   stay_served =
@@ -116,10 +96,10 @@ module _ (k : Core) (s : KernelState) (trap : Trap) (a b c : ℕ) (valid : Valid
       let e = entry_of s.running.context trap.code in
       let least = bound_by_least e.gate e.number in
       let from : Core = record k { processor = enter k.processor trap } in
-      let h = aimed_shows rom stay a b c (Begins routine_of k.bytes s stay) 19000 shown 802 from []
+      let h = aimed_shows rom stay a b c (Begins routine_of k.bytes s stay) 20278 shown 202 from []
       (stays_begin routine_of k s trap (record { context = stands.context; sr = stands.sr; code = f.0; mirrored = λ e o. f.1 e; words = holds_entry k.bytes stands.code; tables = tables_read k.bytes stands.code })) in
-      let more : 19802 + (bound_of s trap.code - 19802) ≡ bound_of s trap.code = omega (arith, least) in
-      subst (λ n. Runs rom stay n (entered k trap a b c)) more (runs_more rom (bound_of s trap.code - 19802) stay 19802 (entered k trap a b c) h.1)
+      let more : 20480 + (bound_of s trap.code - 20480) ≡ bound_of s trap.code = omega (arith, least) in
+      subst (λ n. Runs rom stay n (entered k trap a b c)) more (runs_more rom (bound_of s trap.code - 20480) stay 20480 (entered k trap a b c) h.1)
 
 pub makes_stays : MakesStays rom
 makes_stays k s trap a b c valid fits stands enters = stay_served k s trap a b c valid fits stands enters

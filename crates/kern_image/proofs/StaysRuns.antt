@@ -14,7 +14,7 @@ use Rattle.abs_kernel.specs.Stay.{Stay, Return, Halt, Ask, Tell, Write, Touch}
 use Rattle.kern_stay.specs.Loops.{units}
 use Rattle.kern_entry.specs.Made.{read_of, written_of, is_own_port, is_halt_word, IsRead, IsWritten}
 use Rattle.abs_run.specs.InKernel.{InKernel, side_of, Sign, Nothing, PortRead, PortWritten, Printed, LeftKernel, EndedRun, Strayed, halt_sign, write_sign, sign_of}
-use Rattle.abs_run.specs.Serves.{Onward, Comes, AsksFor, Tells, Prints, Returns, Ends, Runs}
+use Rattle.abs_run.specs.Serves.{Onward, Comes, AsksFor, WritesTo, Prints, Returns, HaltsWith, Runs}
 
 -- ---- with more steps left
 
@@ -43,7 +43,7 @@ module _ (rom : List ℕ) (m : ℕ) where
   returns_more state (LeftKernel next) left h = h
   returns_more state _ left h = absurd h
 
-  ends_more : (stop : Stop) (memory : Memory) → More m (Ends stop memory) (Ends stop memory)
+  ends_more : (stop : Stop) (memory : Memory) → More m (HaltsWith stop memory) (HaltsWith stop memory)
   ends_more stop memory (EndedRun next told) left h = h
   ends_more stop memory _ left h = absurd h
 
@@ -51,7 +51,7 @@ module _ (rom : List ℕ) (m : ℕ) where
   asks_more port on f (PortRead next at value) left h = (h.0, f value left next h.1)
   asks_more port on f _ left h = absurd h
 
-  tells_more : (port value : ℕ) (on : ℕ → InKernel → Type 0) → ((left : ℕ) (k : InKernel) → on left k → on (left + m) k) → More m (Tells port value on) (Tells port value on)
+  tells_more : (port value : ℕ) (on : ℕ → InKernel → Type 0) → ((left : ℕ) (k : InKernel) → on left k → on (left + m) k) → More m (WritesTo port value on) (WritesTo port value on)
   tells_more port value on f (PortWritten next at written) left h = (h.0, h.1, f left next h.2)
   tells_more port value on f _ left h = absurd h
 
@@ -64,9 +64,9 @@ module _ (rom : List ℕ) (m : ℕ) where
 
   pub runs_more : (stay : Stay) (n : ℕ) (k : InKernel) → Runs rom stay n k → Runs rom stay (n + m) k
   runs_more (Return state) n k h = comes_more m (Returns rom state) (Returns rom state) (returns_more state) n k h
-  runs_more (Halt stop memory) n k h = comes_more m (Ends stop memory) (Ends stop memory) (ends_more stop memory) n k h
+  runs_more (Halt stop memory) n k h = comes_more m (HaltsWith stop memory) (HaltsWith stop memory) (ends_more stop memory) n k h
   runs_more (Ask port next) n k h = let last = AsksFor port (λ value left. Runs rom (next value) (left + 128)) in comes_more m last last (asks_more port (λ value left. Runs rom (next value) (left + 128)) (λ value left j. behind_more (next value) (λ i q. runs_more (next value) i q) left j)) n k h
-  runs_more (Tell port value next) n k h = let last = Tells port value (λ left. Runs rom next (left + 128)) in comes_more m last last (tells_more port value (λ left. Runs rom next (left + 128)) (λ left j. behind_more next (λ i q. runs_more next i q) left j)) n k h
+  runs_more (Tell port value next) n k h = let last = WritesTo port value (λ left. Runs rom next (left + 128)) in comes_more m last last (tells_more port value (λ left. Runs rom next (left + 128)) (λ left j. behind_more next (λ i q. runs_more next i q) left j)) n k h
   runs_more (Write byte next) n k h = let last = Prints byte (λ left. Runs rom next (left + 128)) in comes_more m last last (prints_more byte (λ left. Runs rom next (left + 128)) (λ left j. behind_more next (λ i q. runs_more next i q) left j)) n k h
   runs_more (Touch bytes next) n k h =
       let e : n + 128 * bytes + m ≡ n + m + 128 * bytes = omega arith in
@@ -167,15 +167,15 @@ module _ (rom : List ℕ) where
   return_step state n k (Leaves next) h = h
   return_step state n k (Stops stop) h = absurd h
 
-  halt_step : (stop : Stop) (memory : Memory) (n : ℕ) (k : InKernel) (move : Move) → OnMove rom (Halt stop memory) n k move → Onward (Comes (Ends stop memory) n) (λ (x : Sign). Ends stop memory x n) (sign_of k move)
+  halt_step : (stop : Stop) (memory : Memory) (n : ℕ) (k : InKernel) (move : Move) → OnMove rom (Halt stop memory) n k move → Onward (Comes (HaltsWith stop memory) n) (λ (x : Sign). HaltsWith stop memory x n) (sign_of k move)
   halt_step stop memory n k (Goes next) h = h
   halt_step stop memory n k (Reads next at value) h = absurd h.0
   halt_step stop memory n k (Writes next at value) h =
-      let G : Sign → Type 0 = λ sign. Onward (Comes (Ends stop memory) n) (λ (x : Sign). Ends stop memory x n) sign in
+      let G : Sign → Type 0 = λ sign. Onward (Comes (HaltsWith stop memory) n) (λ (x : Sign). HaltsWith stop memory x n) sign in
       let j : InKernel = record k { core = next } in
       split (nat_eq at HALT)
       (λ e x. subst (λ p. G (write_sign j p value)) (sym (eqb-true at HALT e)) (subst (λ o. G (halt_sign j o)) (sym x.0) (refl, x.1)))
-      (λ e x. word (λ p. Comes (Ends stop memory) n (put p value j)) (λ p. G (write_sign j p value)) (λ y. y) (λ y. y) (λ y. y) x.0 x.1)
+      (λ e x. word (λ p. Comes (HaltsWith stop memory) n (put p value j)) (λ p. G (write_sign j p value)) (λ y. y) (λ y. y) (λ y. y) x.0 x.1)
       h
     where
       word : (A B : ℕ → Type 0) → (A HALT_A → B HALT_A) → (A HALT_B → B HALT_B) → (A HALT_C → B HALT_C) → is_halt_word at ≡ true → A at → B at
@@ -197,11 +197,11 @@ module _ (rom : List ℕ) where
   ask_step port on n k (Stops stop) h = absurd h
 
   tell_step : (port told : ℕ) (stay : Stay) (n : ℕ) (k : InKernel) (move : Move) → OnMove rom (Tell port told stay) n k move
-      → Onward (Comes (Tells port told (λ left. Runs rom stay (left + 128))) n) (λ (x : Sign). Tells port told (λ left. Runs rom stay (left + 128)) x n) (sign_of k move)
+      → Onward (Comes (WritesTo port told (λ left. Runs rom stay (left + 128))) n) (λ (x : Sign). WritesTo port told (λ left. Runs rom stay (left + 128)) x n) (sign_of k move)
   tell_step port told stay n k (Goes next) h = h
   tell_step port told stay n k (Reads next at value) h = absurd h.0
   tell_step port told stay n k (Writes next at value) h =
-      let G : Sign → Type 0 = λ sign. Onward (Comes (Tells port told (λ left. Runs rom stay (left + 128))) n) (λ (x : Sign). Tells port told (λ left. Runs rom stay (left + 128)) x n) sign in
+      let G : Sign → Type 0 = λ sign. Onward (Comes (WritesTo port told (λ left. Runs rom stay (left + 128))) n) (λ (x : Sign). WritesTo port told (λ left. Runs rom stay (left + 128)) x n) sign in
       let j : InKernel = record k { core = next } in
       split (nat_eq at HALT) (λ e x. absurd x)
       (λ e x. subst G (sym (told_sign j at value x.0.2)) (x.0.0, x.0.1, subst (Runs rom stay (n + 128)) (put_other j at value x.0.2) x.1)) h

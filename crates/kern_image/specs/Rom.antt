@@ -1,23 +1,27 @@
 -- The ROM. Its words are little-endian (R3000A manual, data formats).
-use Rattle.std.specs.Prelude.{ℕ, ◌-◌, ◌*◌, ◌/◌, List, ◌++◌, flat_map, slice_index, if◌then◌else◌, nat_lt}
+use Rattle.std.specs.Prelude.{ℕ, ◌-◌, ◌*◌, ◌/◌, List, [], ◌∷◌, flat_map, slice_index, if◌then◌else◌, nat_lt}
 use Rattle.byteorder.specs.Endian.{little_bytes}
 use Rattle.kern_layout.specs.Numbers.{threads_at}
 use Rattle.kern_layout.specs.Opening.{opening_at}
 use Rattle.kern_stay.specs.Words.{overlaid}
 use Rattle.kern_entry.specs.EntryWords.{vector_pieces, code_pieces}
 use Rattle.kern_mem.specs.MemWords.{mem_pieces}
+use Rattle.kern_text.specs.TextWords.{text_pieces}
 use Rattle.kern_file.specs.FileWords.{file_pieces}
 use Rattle.kern_image.specs.Tables.{table_pieces}
-use Rattle.kern_image.specs.Words.{listed}
+use Rattle.kern_image.specs.Words.{joined, listed}
 use Rattle.kern_image.specs.declared.boot.TheConstants.{BOOT}
 
 -- the kernel's 64 KB without its code: the opening values in the data ranges, and 0 below them
 unfoldable pub opened_word : ℕ → ℕ
 opened_word a = if nat_lt a threads_at then 0 else opening_at a
 
--- all words of the kernel's code, in the order of their addresses
+-- the words of the kernel's code, crate by crate, in the order of their addresses
+abbrev pub crate_pieces : List (List (ℕ × List ℕ))
+crate_pieces = vector_pieces ∷ table_pieces ∷ code_pieces ∷ mem_pieces ∷ text_pieces ∷ file_pieces ∷ []
+
 abbrev pub all_pieces : List (ℕ × List ℕ)
-all_pieces = vector_pieces ++ (table_pieces ++ (code_pieces ++ (mem_pieces ++ file_pieces)))
+all_pieces = joined crate_pieces
 
 -- the word at an address of the kernel's 64 KB: the vector, the gates, the tables and the code, else an opening value
 unfoldable pub kernel_word : ℕ → ℕ

@@ -1,29 +1,22 @@
 -- The tables of routines: at each number that is served, the address of its call's listing.
-use Rattle.std.specs.Prelude.{ℕ, List, [], ◌∷◌}
+use Rattle.std.specs.Prelude.{ℕ, List, [], ◌∷◌, if◌then◌else◌}
 use Rattle.psx_base.specs.declared.stop.Table.{Table}
 use Rattle.psx_base.specs.declared.stop.Table.TheVariants.{A, B, C}
 use Rattle.kern_layout.specs.declared.ranges.TheConstants.{TABLE_A, TABLE_B, TABLE_C}
 use Rattle.abs_kernel.specs.declared.calls.CallId.{CallId}
-use Rattle.abs_kernel.specs.declared.calls.CallId.TheVariants.{A06, A2B, A2E, A2F, A30, A3A, A3C, A3E, B38, B3D, B3F}
-use Rattle.abs_kernel.specs.CallTable.{served_call}
-use Rattle.kern_entry.specs.declared.places.TheConstants.{EXIT, PUTCHAR}
+use Rattle.abs_kernel.specs.CallTable.{same_call, served_call}
 use Rattle.kern_entry.specs.Tables.{table_word}
-use Rattle.kern_mem.specs.declared.places.TheConstants.{MEMSET, MEMCHR, RAND, SRAND}
-use Rattle.kern_file.specs.declared.places.TheConstants.{PUTS}
 use Rattle.kern_image.specs.Words.{listed}
+use Rattle.kern_image.specs.declared.places.Place.{Place}
+use Rattle.kern_image.specs.declared.places.TheConstants.{PLACES}
+
+-- the address that places have for a call, 0 where it has none
+abbrev pub place_of : List Place → CallId → ℕ
+place_of [] id = 0
+place_of (p ∷ ps) id = if same_call p.call id then p.at else place_of ps id
 
 abbrev pub routine_of : CallId → ℕ
-routine_of A06 = EXIT
-routine_of A2B = MEMSET
-routine_of A2E = MEMCHR
-routine_of A2F = RAND
-routine_of A30 = SRAND
-routine_of A3A = EXIT
-routine_of A3C = PUTCHAR
-routine_of A3E = PUTS
-routine_of B38 = EXIT
-routine_of B3D = PUTCHAR
-routine_of B3F = PUTS
+routine_of id = place_of PLACES id
 
 abbrev pub table_words : Table → (count : ℕ) → List ℕ
 table_words table count = listed (λ n. table_word routine_of (served_call table n)) count

@@ -52,6 +52,7 @@ fn kernel(alloc: Global) -> Result<KernelBlock, Memory>
 {
     let mut block = KernelBlock::new(alloc)?;
     kern_file::place(&mut block);
+    kern_text::place(&mut block);
     kern_mem::place(&mut block);
     place_code(&mut block);
     place_tables(&mut block);

@@ -6,6 +6,7 @@ pub mod boot;
 pub mod boots;
 pub mod image;
 pub mod laws;
+pub mod places;
 pub mod serving;
 pub mod stays;
 mod tables;

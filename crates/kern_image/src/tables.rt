@@ -6,31 +6,22 @@ ghost use Rattle.kern_stay.specs.Words.{over, overlaid};
 ghost use Rattle.kern_entry.specs.Tables.{table_word};
 ghost use Rattle.kern_image.specs.Tables.{routine_of, table_words, table_pieces};
 
+use crate::places::PLACES;
 use abs_kernel::{CallId, served};
-use kern_entry::places::{EXIT, PUTCHAR};
-use kern_file::places::PUTS;
 use kern_layout::KernelBlock;
 use kern_layout::ranges::{TABLE_A, TABLE_B, TABLE_C};
-use kern_mem::places::{MEMCHR, MEMSET, RAND, SRAND};
 use psx_base::Table;
 
-// The address of a call's listing.
+// The address of a call's listing, and 0 for a call with no place.
 fn routine(id: CallId) -> u32
     ensures { result ≡ routine_of id }
 {
-    match id {
-        CallId::A06 => EXIT,
-        CallId::A2B => MEMSET,
-        CallId::A2E => MEMCHR,
-        CallId::A2F => RAND,
-        CallId::A30 => SRAND,
-        CallId::A3A => EXIT,
-        CallId::A3C => PUTCHAR,
-        CallId::A3E => PUTS,
-        CallId::B38 => EXIT,
-        CallId::B3D => PUTCHAR,
-        CallId::B3F => PUTS,
+    for place in &PLACES {
+        if place.call == id {
+            return place.at;
+        }
     }
+    0
 }
 
 // The word of a number: 0 where it isn't served.

@@ -1,5 +1,6 @@
-pub mod RandMeets
-pub mod SrandMeets
-pub mod MemchrMeets
-pub mod MemsetMeets
+pub mod A2fRand
+pub mod A30Srand
+pub mod A2eMemchr
+pub mod A2aMemcpy
+pub mod A2bMemset
 pub mod Served

@@ -1,18 +1,18 @@
 -- That the crate's calls are served.
+use Rattle.std.specs.Prelude.{ℕ, List, [], ◌∷◌}
 use Rattle.psx_base.specs.Memory.{Memory, word}
+use Rattle.abs_kernel.specs.declared.calls.CallId.{CallId}
 use Rattle.abs_kernel.specs.declared.calls.CallId.TheVariants.{A2B, A2E, A2F, A30}
-use Rattle.abs_kernel.specs.Calls.{call}
 use Rattle.kern_stay.specs.Words.{Stand}
-use Rattle.kern_stay.specs.Doors.{IsServed}
+use Rattle.kern_stay.specs.Doors.{most_steps}
+use Rattle.kern_stay.specs.Served.{AllServed}
 use Rattle.kern_mem.specs.declared.places.TheConstants.{MEMSET, MEMCHR, RAND, SRAND}
 use Rattle.kern_mem.specs.MemWords.{mem_pieces}
 
-pub record MemServed (m : Memory) : Type 0 where
-  pub memset : IsServed m (call A2B) MEMSET
-  pub memchr : IsServed m (call A2E) MEMCHR
-  pub rand : IsServed m (call A2F) RAND
-  pub srand : IsServed m (call A30) SRAND
+-- the calls, each with its listing's address
+abbrev pub mem_calls : List (CallId × ℕ)
+mem_calls = (A2B, MEMSET) ∷ (A2E, MEMCHR) ∷ (A2F, RAND) ∷ (A30, SRAND) ∷ []
 
 -- where its words stand
 abbrev pub MemServes : Type 0
-MemServes = (m : Memory) → Stand (word m) mem_pieces → MemServed m
+MemServes = (m : Memory) → Stand (word m) mem_pieces → AllServed m most_steps mem_calls

@@ -13,3 +13,9 @@ pub const RAND: u32 = MEMSET + 0x140;
 
 /// The listing of srand.
 pub const SRAND: u32 = MEMSET + 0x180;
+
+/// The listing that counts the bytes of user memory from an address on.
+pub const ROOM: u32 = MEMSET + 0x1C0;
+
+/// The listing of memcpy.
+pub const MEMCPY: u32 = MEMSET + 0x280;

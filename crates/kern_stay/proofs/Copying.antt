@@ -1,7 +1,7 @@
 -- The listing of COPY copies words.
-use Rattle.psx_flow.proofs.Kit.{◌≡◌, ℕ, suc, ◌+◌, ◌-◌, ◌*◌, ◌%◌, ◌^◌, ◌<◌, ◌≤◌, ◌⊎◌, inl, inr, [], true, false, refl, sym, ap, ◌∙◌, subst, arith, ⊎_elim, Memory, byte, word, put_word, Registers, Run, Meets, Goal, Calls, calls, Tree, Stop, Do, GoTo, place, kernel_words, Fair, fair, start, while, Turn, Sym, ended, Part, Anew, Calling, run, Entry, applied, Access, Cop0}
-use Rattle.std.proofs.Common.{List, eq-eqb}
-use Rattle.std.specs.Prelude.{nat_lt, if◌then◌else◌}
+use Rattle.psx_flow.proofs.Kit.{◌≡◌, ℕ, suc, ◌+◌, ◌-◌, ◌*◌, ◌%◌, ◌^◌, ◌<◌, ◌≤◌, ◌⊎◌, inl, inr, [], true, false, refl, sym, ap, ◌∙◌, subst, arith, ⊎_elim, Memory, byte, word, put_word, Registers, Run, Meets, Goal, Calls, calls, Tree, Stop, Do, GoTo, place, kernel_words, Fair, fair, start, while, Turn, Sym, ended, Part, Anew, Count, counted, Calling, run, Entry, applied, Access, Cop0}
+use Rattle.std.proofs.Common.{List, ◌∷◌, eq-eqb}
+use Rattle.std.specs.Prelude.{nat_lt, nat_eq, if◌then◌else◌}
 use Rattle.std.proofs.lemmas.Bool.{lt-ltb, cases_eq}
 use Rattle.psx_ins.specs.declared.reg.Reg.{Reg}
 use Rattle.psx_ins.specs.declared.ins.Ins.TheVariants.{LW, SW, ADDIU}
@@ -10,13 +10,12 @@ use Rattle.psx_ram.specs.Apart.{apart}
 use Rattle.psx_ram.proofs.Laws.{byte-put_word_apart}
 use Rattle.psx_flow.specs.Told.{ports}
 use Rattle.psx_flow.proofs.Rules.{meets_mono}
-use Rattle.psx_flow.proofs.Knows.{first_call}
+use Rattle.psx_flow.proofs.Knows.{first_call, later_call}
 use Rattle.psx_flow.proofs.Log.{Kernel, Nowhere, sort, sort_by, in_user, is_port, word_sort}
 use Rattle.kern_layout.proofs.Blocks.{put_here, put_other}
 use Rattle.kern_layout.proofs.MemoryStored.{word_stored}
-use Rattle.kern_stay.specs.Shared.{tree, shared, tested_there}
+use Rattle.kern_stay.specs.Shared.{tree}
 use Rattle.kern_stay.specs.declared.copy.TheConstants.{COPY_NODES}
-use Rattle.kern_stay.specs.declared.places.TheConstants.{COPY}
 use Rattle.kern_stay.specs.Copy.{WordsCopied, NamesBlocks, Copied, CopiesWords}
 
 abbrev r : ℕ → Reg
@@ -61,7 +60,7 @@ record Head (s : Run) (from to count k : ℕ) (e : Run) : Type 0 where
   words : (a : ℕ) → a % 4 ≡ 0 → (a < to) ⊎ (to + 4 * count ≤ a) → word e.bytes a ≡ word s.bytes a
   bytes : (a : ℕ) → (a < to) ⊎ (to + 4 * count ≤ a) → byte e.bytes a ≡ byte s.bytes a
   ports : ports e.seen ≡ ports s.seen
-  within : e.passed ≤ s.passed + 5 * i
+  within : e.steps ≤ s.steps + 8 * i
 
 module _ (C : Calls) (fair : Fair C) (at : ℕ) (s : Run) (from to count : ℕ) (names : NamesBlocks s.regs from to count) where
   abbrev G : ℕ → Goal
@@ -145,25 +144,32 @@ copies_words at s from to count names = copies (calls kernel_words []) (fair ker
 
 -- ---- what a routine takes of it
 
-module _ (C : Calls) (fair : Fair C) (k : Part) (c : Registers) (z : Cop0) (m : Memory) (w : List Entry) (q : List Access) (p : ℕ) (from to count : ℕ) (names : NamesBlocks c from to count)
-    (known : (n : Memory) (x y v : ℕ) (seen : List Access) (passed : ℕ) → WordsCopied (applied m w) n from to count → ports seen ≡ ports q → passed ≤ p + (5 * count + 2) → k (record c { r8 = x; r9 = y; r12 = v }) z n [] seen passed) where
+module _ (C : Calls) (fair : Fair C) (k : Part) (c : Registers) (z : Cop0) (m : Memory) (w : List Entry) (q : List Access) (p : Count) (from to count : ℕ) (names : NamesBlocks c from to count)
+    (known : (n : Memory) (x y v : ℕ) (seen : List Access) (later : Count) → WordsCopied (applied m w) n from to count → ports seen ≡ ports q → later.steps ≤ p.steps + (8 * count + 4) → k (record c { r8 = x; r9 = y; r12 = v }) z n [] seen later) where
   goes : (to_at : ℕ) (e : Run) → Copied (run c z m w q p) from to count to_at e → (to_at ≡ c.r31) × Anew k e
   goes to_at e h =
-      let there : k (record c { r8 = e.regs.r8; r9 = e.regs.r9; r12 = e.regs.r12 }) z e.bytes [] e.seen e.passed = known e.bytes e.regs.r8 e.regs.r9 e.regs.r12 e.seen e.passed h.words h.ports h.within in
-      (h.back, record { memory = e.bytes; log = []; same = refl; sorted = tt; goes = subst (λ x. k x e.cop0 e.bytes [] e.seen e.passed) (sym h.regs) (subst (λ x. k (record c { r8 = e.regs.r8; r9 = e.regs.r9; r12 = e.regs.r12 }) x e.bytes [] e.seen e.passed) (sym h.cop0) there) })
+      let there : k (record c { r8 = e.regs.r8; r9 = e.regs.r9; r12 = e.regs.r12 }) z e.bytes [] e.seen (counted e) = known e.bytes e.regs.r8 e.regs.r9 e.regs.r12 e.seen (counted e) h.words h.ports h.within in
+      (h.back, record { memory = e.bytes; log = []; same = refl; sorted = tt; goes = subst (λ x. k x e.cop0 e.bytes [] e.seen (counted e)) (sym h.regs) (subst (λ x. k (record c { r8 = e.regs.r8; r9 = e.regs.r9; r12 = e.regs.r12 }) x e.bytes [] e.seen (counted e)) (sym h.cop0) there) })
 
-  pub gives_copy : Meets kernel_words C (tree COPY_NODES) COPY (λ _. ⊥) (λ b e. (b ≡ c.r31) × Anew k e) (run c z m w q p)
-  gives_copy =
-      meets_mono kernel_words C fair (tree COPY_NODES) COPY (λ _. ⊥) (λ _. ⊥) (λ b e. Copied (run c z m w q p) from to count b e) (λ b e. (b ≡ c.r31) × Anew k e) (run c z m w q p) (λ e x. x) (λ b e h. goes b e h)
-      (copies C fair COPY (run c z m w q p) from to count names)
+  pub gives_copy : (place : ℕ) → Meets kernel_words C (tree COPY_NODES) place (λ _. ⊥) (λ b e. (b ≡ c.r31) × Anew k e) (run c z m w q p)
+  gives_copy place =
+      meets_mono kernel_words C fair (tree COPY_NODES) place (λ _. ⊥) (λ _. ⊥) (λ b e. Copied (run c z m w q p) from to count b e) (λ b e. (b ≡ c.r31) × Anew k e) (run c z m w q p) (λ e x. x) (λ b e h. goes b e h)
+      (copies C fair place (run c z m w q p) from to count names)
 
-pub record KnowsCopy (C : Calls) : Type 1 where
-  pub copy : (k : Part) (c : Registers) (z : Cop0) (m : Memory) (w : List Entry) (q : List Access) (p : ℕ) (from to count : ℕ) → NamesBlocks c from to count
-      → ((n : Memory) (x y v : ℕ) (seen : List Access) (passed : ℕ) → WordsCopied (applied m w) n from to count → ports seen ≡ ports q → passed ≤ p + (5 * count + 2) → k (record c { r8 = x; r9 = y; r12 = v }) z n [] seen passed) → Calling C COPY c.r31 k c z m w q p
+-- where it stands
+pub record KnowsCopy (place : ℕ) (C : Calls) : Type 1 where
+  pub copy : (k : Part) (c : Registers) (z : Cop0) (m : Memory) (w : List Entry) (q : List Access) (p : Count) (from to count : ℕ) → NamesBlocks c from to count
+      → ((n : Memory) (x y v : ℕ) (seen : List Access) (later : Count) → WordsCopied (applied m w) n from to count → ports seen ≡ ports q → later.steps ≤ p.steps + (8 * count + 4) → k (record c { r8 = x; r9 = y; r12 = v }) z n [] seen later) → Calling C place c.r31 k c z m w q p
 
-pub knows_copy : KnowsCopy (calls kernel_words shared)
-knows_copy = record {
+pub knows_copy : (place : ℕ) (ls : List (ℕ × Tree)) → KnowsCopy place (calls kernel_words ((place, tree COPY_NODES) ∷ ls))
+knows_copy place ls = record {
   copy = λ k c z m w q p from to count names known. record {
-    called = λ ok. first_call COPY (tree COPY_NODES) tested_there c.r31 (Anew k) (run c z m w q p) (gives_copy (calls kernel_words tested_there) (fair kernel_words tested_there) k c z m w q p from to count names known);
+    called = λ ok. first_call place (tree COPY_NODES) ls c.r31 (Anew k) (run c z m w q p) refl (gives_copy (calls kernel_words ls) (fair kernel_words ls) k c z m w q p from to count names known place);
   };
+}
+
+-- and behind a listing that stands elsewhere
+pub knows_copy_behind : (place : ℕ) (l : ℕ × Tree) (ls : List (ℕ × Tree)) → nat_eq place l.0 ≡ false → KnowsCopy place (calls kernel_words ls) → KnowsCopy place (calls kernel_words (l ∷ ls))
+knows_copy_behind place l ls far know = record {
+  copy = λ k c z m w q p from to count names known. record { called = λ ok. later_call place l ls c.r31 (Anew k) (run c z m w q p) far ((know.copy k c z m w q p from to count names known).called ok) };
 }

@@ -1,60 +1,82 @@
 -- What the proof of a routine cites besides psx_flow's Kit: its ends, what is left of its stay, and its accesses to user memory.
-use Rattle.std.proofs.Common.{◌≡◌, ℕ, ◌+◌, ◌*◌, ◌%◌, ◌^◌, ◌/◌, ◌⊎◌, ◌<◌, ◌≤◌, [], Bool, true, false, refl, sym, ap, ◌∙◌, subst, arith}
+use Rattle.std.proofs.Common.{◌≡◌, ℕ, ◌+◌, ◌*◌, ◌%◌, ◌^◌, ◌/◌, ◌⊎◌, ◌<◌, ◌≤◌, List, [], ◌∷◌, inl, inr, Bool, true, false, refl, sym, ap, ◌∙◌, subst, arith}
 use Rattle.std.specs.Prelude.{nat_eq, ◌&&◌, ◌||◌, if◌then◌else◌}
 use Rattle.std.proofs.lemmas.Bool.{false≢true}
 use Rattle.psx_base.specs.Addresses.{place, user, top, low, user_main, scratchpad}
 use Rattle.psx_base.specs.Memory.{Memory, byte}
-use Rattle.psx_base.specs.KernelState.{KernelState}
+use Rattle.psx_base.specs.KernelState.{ThreadContext, Task, KernelState}
 use Rattle.psx_flow.specs.Run.{Run}
+use Rattle.psx_base.specs.declared.stop.Stop.TheVariants.{BadThread, Deep}
 use Rattle.psx_flow.specs.Told.{ports}
-use Rattle.abs_kernel.specs.Stay.{Stay}
-use Rattle.abs_kernel.specs.Answered.{answered}
+use Rattle.kern_layout.specs.Stands.{SameUser}
+use Rattle.abs_kernel.specs.Stay.{Stay, Halt}
+use Rattle.abs_kernel.specs.Answered.{registers_of, answered}
 use Rattle.abs_kernel.specs.UserBytes.{count_of, bad_pointer, reads_byte, writes_byte, with_byte}
-use Rattle.kern_stay.specs.declared.places.TheConstants.{LEAVE, BAD_POINTER}
-use Rattle.kern_stay.specs.Doors.{Holds, Ends, Through, most_nodes}
+use Rattle.abs_kernel.specs.Work.{takes_up, IsWork}
+use Rattle.kern_stay.specs.declared.places.TheConstants.{LEAVE, WORK, BAD_POINTER, BAD_THREAD, DEEP}
+use Rattle.kern_stay.specs.Doors.{Holds, Works, Ends, Through}
 
 -- ---- the ends, of a stay that accesses no port
 
-pub through : (stay : Stay) (most to : ℕ) (e : Run) → ports e.seen ≡ [] → Ends 32 stay most to e → Through stay most to e
-through stay most to e q h = record { told = []; ports = q; follows = tt; ends = h }
+pub through : (stay : Stay) (most to : ℕ) (e : Run) → ports e.seen ≡ [] → Ends 128 stay most to e → Through stay most to e
+through stay most to e q h = record { told = []; ports = q; follows = tt; ends = inl h }
 
-pub answers : (most : ℕ) (state : KernelState) (e : Run) (stay : Stay) → stay ≡ answered state e.regs.r2 → Holds state e.bytes → e.passed ≤ most → Ends 32 stay most LEAVE e
-answers most state e stay is h few = subst (λ x. Ends 32 x most LEAVE e) (sym is) (few, record { state = state; is = refl; holds = h })
+pub answers : (most : ℕ) (state : KernelState) (e : Run) (stay : Stay) → stay ≡ answered state e.regs.r2 → Holds state e.bytes → e.steps ≤ most → Ends 128 stay most LEAVE e
+answers most state e stay is h few = subst (λ x. Ends 128 x most LEAVE e) (sym is) (few, record { state = state; is = refl; holds = h })
 
-pub refuses : (most : ℕ) (state : KernelState) (e : Run) (stay : Stay) → stay ≡ bad_pointer state e.regs.r8 → Holds state e.bytes → e.passed ≤ most → Ends 32 stay most BAD_POINTER e
-refuses most state e stay is h few = subst (λ x. Ends 32 x most BAD_POINTER e) (sym is) (few, record { state = state; is = refl; memory_is = refl; holds = h })
+pub refuses : (most : ℕ) (state : KernelState) (e : Run) (stay : Stay) → stay ≡ bad_pointer state e.regs.r8 → Holds state e.bytes → e.steps ≤ most → Ends 128 stay most BAD_POINTER e
+refuses most state e stay is h few = subst (λ x. Ends 128 x most BAD_POINTER e) (sym is) (few, record { state = state; is = refl; memory_is = refl; holds = h })
 
--- ---- what is left of a stay, and how many nodes it may end at
+-- the tasks are done from WORK on
+pub works : (stay : Stay) (most : ℕ) (e : Run) → ports e.seen ≡ [] → Works stay e → e.steps ≤ most → Through stay most WORK e
+works stay most e q h few = record { told = []; ports = q; follows = tt; ends = inr (refl, few, h) }
 
-pub record Left (stay rest : Stay) (most : ℕ) : Type 0 where
-  pub enough : (to : ℕ) (e : Run) → Ends 32 rest most to e → Ends 32 stay most_nodes to e
+-- where no task is left
+pub work_is : (s : KernelState) (c : ThreadContext) (ts : List Task) (value ra : ℕ) (rest : Stay) → IsWork s c ts value ra rest → rest ≡ takes_up s c
+work_is s c [] value ra rest h = h
+work_is s c (t ∷ ts) value ra rest h = absurd h
 
-pub left_all : (stay : Stay) → Left stay stay most_nodes
+pub works_end : (rest : Stay) (e : Run) (h : Works rest e) → rest ≡ takes_up h.state h.context
+works_end rest e h = work_is h.state h.context h.tasks e.regs.r2 e.regs.r31 rest h.is
+
+-- a handle that names no thread, and a frame too many
+pub refuses_thread : (most : ℕ) (state : KernelState) (e : Run) (stay : Stay) → stay ≡ Halt (BadThread e.regs.r8 (registers_of state).r31) state.memory → Holds state e.bytes → e.steps ≤ most → Ends 128 stay most BAD_THREAD e
+refuses_thread most state e stay is h few = subst (λ x. Ends 128 x most BAD_THREAD e) (sym is) (few, record { state = state; is = refl; memory_is = refl; holds = h })
+
+pub overflows : (most : ℕ) (memory : Memory) (e : Run) (stay : Stay) → stay ≡ Halt (Deep e.regs.r31) memory → SameUser e.bytes memory → e.steps ≤ most → Ends 128 stay most DEEP e
+overflows most memory e stay is h few = subst (λ x. Ends 128 x most DEEP e) (sym is) (few, record { is = refl; user = h })
+
+-- ---- what is left of a stay, and how many nodes it may end at, where the whole of it has a flat bound
+
+pub record Left (flat : ℕ) (stay rest : Stay) (most : ℕ) : Type 0 where
+  pub enough : (to : ℕ) (e : Run) → Ends 128 rest most to e → Ends 128 stay flat to e
+
+pub left_all : {flat : ℕ} (stay : Stay) → Left flat stay stay flat
 left_all stay = record { enough = λ to e h. h }
 
-pub left_is : (stay rest now : Stay) (most : ℕ) → rest ≡ now → Left stay rest most → Left stay now most
-left_is stay rest now most e l = subst (λ x. Left stay x most) e l
+pub left_is : {flat : ℕ} (stay rest now : Stay) (most : ℕ) → rest ≡ now → Left flat stay rest most → Left flat stay now most
+left_is {flat} stay rest now most e l = subst (λ x. Left flat stay x most) e l
 
 -- a byte that is user memory is read or written, and another is refused
-pub left_read : (stay : Stay) (s : KernelState) (at : ℕ) (next : ℕ → Stay) (most : ℕ) → user at ≡ true → Left stay (reads_byte s at next) most → Left stay (next (byte s.memory (place at))) (most + 32)
+pub left_read : {flat : ℕ} (stay : Stay) (s : KernelState) (at : ℕ) (next : ℕ → Stay) (most : ℕ) → user at ≡ true → Left flat stay (reads_byte s at next) most → Left flat stay (next (byte s.memory (place at))) (most + 128)
 left_read stay s at next most u l =
     let is : (if user at then next (byte s.memory (place at)) else bad_pointer s at) ≡ next (byte s.memory (place at)) = ap (λ b. if b then next (byte s.memory (place at)) else bad_pointer s at) u in
-    record { enough = λ to e h. l.enough to e (subst (λ x. Ends 32 x (most + 32) to e) (sym is) h) }
+    record { enough = λ to e h. l.enough to e (subst (λ x. Ends 128 x (most + 128) to e) (sym is) h) }
 
-pub left_written : (stay : Stay) (s : KernelState) (at value : ℕ) (next : KernelState → Stay) (most : ℕ) → user at ≡ true → Left stay (writes_byte s at value next) most → Left stay (next (with_byte s at value)) (most + 32)
+pub left_written : {flat : ℕ} (stay : Stay) (s : KernelState) (at value : ℕ) (next : KernelState → Stay) (most : ℕ) → user at ≡ true → Left flat stay (writes_byte s at value next) most → Left flat stay (next (with_byte s at value)) (most + 128)
 left_written stay s at value next most u l =
     let is : (if user at then next (with_byte s at value) else bad_pointer s at) ≡ next (with_byte s at value) = ap (λ b. if b then next (with_byte s at value) else bad_pointer s at) u in
-    record { enough = λ to e h. l.enough to e (subst (λ x. Ends 32 x (most + 32) to e) (sym is) h) }
+    record { enough = λ to e h. l.enough to e (subst (λ x. Ends 128 x (most + 128) to e) (sym is) h) }
 
-pub left_unread : (stay : Stay) (s : KernelState) (at : ℕ) (next : ℕ → Stay) (most : ℕ) → user at ≡ false → Left stay (reads_byte s at next) most → Left stay (bad_pointer s at) (most + 32)
+pub left_unread : {flat : ℕ} (stay : Stay) (s : KernelState) (at : ℕ) (next : ℕ → Stay) (most : ℕ) → user at ≡ false → Left flat stay (reads_byte s at next) most → Left flat stay (bad_pointer s at) (most + 128)
 left_unread stay s at next most u l =
     let is : (if user at then next (byte s.memory (place at)) else bad_pointer s at) ≡ bad_pointer s at = ap (λ b. if b then next (byte s.memory (place at)) else bad_pointer s at) u in
-    record { enough = λ to e h. l.enough to e (subst (λ x. Ends 32 x (most + 32) to e) (sym is) h) }
+    record { enough = λ to e h. l.enough to e (subst (λ x. Ends 128 x (most + 128) to e) (sym is) h) }
 
-pub left_unwritten : (stay : Stay) (s : KernelState) (at value : ℕ) (next : KernelState → Stay) (most : ℕ) → user at ≡ false → Left stay (writes_byte s at value next) most → Left stay (bad_pointer s at) (most + 32)
+pub left_unwritten : {flat : ℕ} (stay : Stay) (s : KernelState) (at value : ℕ) (next : KernelState → Stay) (most : ℕ) → user at ≡ false → Left flat stay (writes_byte s at value next) most → Left flat stay (bad_pointer s at) (most + 128)
 left_unwritten stay s at value next most u l =
     let is : (if user at then next (with_byte s at value) else bad_pointer s at) ≡ bad_pointer s at = ap (λ b. if b then next (with_byte s at value) else bad_pointer s at) u in
-    record { enough = λ to e h. l.enough to e (subst (λ x. Ends 32 x (most + 32) to e) (sym is) h) }
+    record { enough = λ to e h. l.enough to e (subst (λ x. Ends 128 x (most + 128) to e) (sym is) h) }
 
 -- ---- an access at a register without an offset
 

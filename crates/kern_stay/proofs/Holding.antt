@@ -18,7 +18,7 @@ use Rattle.kern_layout.proofs.MemoryStored.{word_stored, line_kept}
 use Rattle.kern_layout.proofs.Stored.{variable_stored}
 use Rattle.kern_layout.proofs.Written.{reads_free}
 use Rattle.abs_kernel.specs.UserBytes.{with_byte}
-use Rattle.abs_kernel.specs.Random.{with_random}
+use Rattle.abs_kernel.specs.Rand.{with_random}
 use Rattle.abs_kernel.proofs.Moved.{valid_moved}
 use Rattle.kern_stay.specs.Doors.{Holds}
 

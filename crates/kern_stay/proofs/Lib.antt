@@ -1,5 +1,6 @@
 pub mod RoomLeft
 pub mod RoomGiven
+pub mod Accessing
 pub mod Holding
 pub mod Ending
 pub mod Over
@@ -7,6 +8,7 @@ pub mod Trees
 pub mod Telling
 pub mod Standing
 pub mod Cursor
+pub mod TwoCursors
 pub mod Passing
 pub mod Copying
 pub mod Switching

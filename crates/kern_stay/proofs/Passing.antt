@@ -33,13 +33,13 @@ passed loop again stay most to e other quiet h = record { told = []; ports = qui
 touched : (stay next : Stay) (bytes most to : ℕ) (e : Run) → stay ≡ Touch bytes next → Ends 0 next most to e → Ends 0 stay most to e
 touched stay next bytes most to e is h = let z : most ≡ most + 0 * bytes = omega arith in subst (λ y. Ends 0 y most to e) (sym is) (subst (λ j. Ends 0 next j to e) z h)
 
-pub answers_now : (state : KernelState) (most : ℕ) (e : Run) (stay : Stay) → stay ≡ answered state e.regs.r2 → Holds state e.bytes → e.passed ≤ most → Ends 0 stay most LEAVE e
+pub answers_now : (state : KernelState) (most : ℕ) (e : Run) (stay : Stay) → stay ≡ answered state e.regs.r2 → Holds state e.bytes → e.steps ≤ most → Ends 0 stay most LEAVE e
 answers_now state most e stay is h few = subst (λ y. Ends 0 y most LEAVE e) (sym is) (few, record { state = state; is = refl; holds = h })
 
-pub answers_last : (state : KernelState) (bytes most : ℕ) (e : Run) (stay : Stay) → stay ≡ Touch bytes (answered state e.regs.r2) → Holds state e.bytes → e.passed ≤ most → Ends 0 stay most LEAVE e
+pub answers_last : (state : KernelState) (bytes most : ℕ) (e : Run) (stay : Stay) → stay ≡ Touch bytes (answered state e.regs.r2) → Holds state e.bytes → e.steps ≤ most → Ends 0 stay most LEAVE e
 answers_last state bytes most e stay is h few = touched stay (answered state e.regs.r2) bytes most LEAVE e is (few, record { state = state; is = refl; holds = h })
 
-pub refuses_last : (state : KernelState) (bytes most : ℕ) (e : Run) (stay : Stay) → stay ≡ Touch bytes (bad_pointer state e.regs.r8) → Holds state e.bytes → e.passed ≤ most → Ends 0 stay most BAD_POINTER e
+pub refuses_last : (state : KernelState) (bytes most : ℕ) (e : Run) (stay : Stay) → stay ≡ Touch bytes (bad_pointer state e.regs.r8) → Holds state e.bytes → e.steps ≤ most → Ends 0 stay most BAD_POINTER e
 refuses_last state bytes most e stay is h few = touched stay (bad_pointer state e.regs.r8) bytes most BAD_POINTER e is (few, record { state = state; is = refl; memory_is = refl; holds = h })
 
 -- at the loop's address: before any access, and where a byte was written to the console

@@ -1,16 +1,14 @@
 -- The listing of ROOM gives the number.
-use Rattle.psx_flow.proofs.Kit.{false, ◌≡◌, ℕ, ◌+◌, ◌-◌, ◌%◌, ◌^◌, ◌<◌, ◌≤◌, inl, inr, List, refl, sym, ap, ◌∙◌, subst, arith, ⊎_elim, Memory, Registers, Cop0, Run, Access, Meets, Goal, Calls, calls, kernel_words, Fair, fair, Part, Anew, run, Entry, Sorted, ended, Calling, [], ◌∷◌}
-use Rattle.std.specs.Prelude.{nat_lt}
+use Rattle.psx_flow.proofs.Kit.{false, ◌≡◌, ℕ, ◌+◌, ◌-◌, ◌%◌, ◌^◌, ◌<◌, ◌≤◌, inl, inr, List, refl, sym, ap, ◌∙◌, subst, arith, ⊎_elim, Memory, Registers, Cop0, Run, Access, Meets, Goal, Calls, calls, kernel_words, Fair, fair, Part, Anew, Count, counted, run, Entry, Sorted, ended, Calling, [], ◌∷◌, Tree}
+use Rattle.std.specs.Prelude.{nat_lt, nat_eq}
 use Rattle.std.proofs.lemmas.Bool.{cases_lt, lt-ltb}
 use Rattle.psx_cpu.specs.Words.{truth}
 use Rattle.psx_flow.proofs.Sound.{sound, anew}
 use Rattle.psx_flow.proofs.Rules.{meets_mono}
-use Rattle.psx_flow.proofs.Knows.{first_call, Places, Knows, tested_at, knows_tested, knows_more}
+use Rattle.psx_flow.proofs.Knows.{first_call, later_call}
 use Rattle.kern_stay.specs.declared.room.TheConstants.{ROOM_NODES}
-use Rattle.kern_stay.specs.declared.copy.TheConstants.{COPY_NODES}
 use Rattle.kern_stay.specs.Room.{room, Given, GivesRoom}
-use Rattle.kern_stay.specs.Shared.{tree, shared, copy_there}
-use Rattle.kern_stay.specs.declared.places.TheConstants.{ROOM, COPY, READ_BYTE, WRITE_BYTE, READ_WORD, WRITE_WORD}
+use Rattle.kern_stay.specs.Shared.{tree}
 use Rattle.kern_stay.proofs.RoomLeft.{room_1, room_3, room_5, room_7, room_9, room_none, Out}
 
 -- a test of a range
@@ -40,9 +38,9 @@ miss from size a small fits h = let ge = false_then _ _ h in ⊎_elim (λ l. inl
 abbrev Back : Part → ℕ → ℕ → Goal
 Back k ra b s = (b ≡ ra) × Anew k s
 
-module _ (C : Calls) (fair : Fair C) (k : Part) (at : ℕ) (c : Registers) (z : Cop0) (m : Memory) (w : List Entry) (q : List Access) (p : ℕ) (small : c.r8 < 2 ^ 32) (ok : Sorted w)
-    (known : (x y n : ℕ) → n ≤ p + 30 → k (record c { r9 = room c.r8; r10 = x; r11 = y }) z m w q n) where
-  come : (v x y n : ℕ) → room c.r8 ≡ v → n ≤ p + 30 → Back k c.r31 c.r31 (run (record c { r9 = v; r10 = x; r11 = y }) z m w q n)
+module _ (C : Calls) (fair : Fair C) (k : Part) (at : ℕ) (c : Registers) (z : Cop0) (m : Memory) (w : List Entry) (q : List Access) (p : Count) (small : c.r8 < 2 ^ 32) (ok : Sorted w)
+    (known : (x y : ℕ) (n : Count) → n.steps ≤ p.steps + 30 → k (record c { r9 = room c.r8; r10 = x; r11 = y }) z m w q n) where
+  come : (v x y : ℕ) (n : Count) → room c.r8 ≡ v → n.steps ≤ p.steps + 30 → Back k c.r31 c.r31 (run (record c { r9 = v; r10 = x; r11 = y }) z m w q n)
   come v x y n e few = (refl, record { memory = m; log = w; same = refl; sorted = ok; goes = subst (λ r. k (record c { r9 = r; r10 = x; r11 = y }) z m w q n) e (known x y n few) })
 
   abbrev of : (from size : ℕ) → ℕ
@@ -80,27 +78,24 @@ gave at s h =
 
 pub gives_room : GivesRoom (tree ROOM_NODES)
 gives_room at s small =
-    gave at s (gives (calls kernel_words []) (fair kernel_words []) (Gave s) at s.regs s.cop0 s.bytes [] s.seen s.passed small tt (λ x y n few. record { back = refl; regs = refl; cop0 = refl; bytes = refl; seen = refl; within = few }))
+    gave at s (gives (calls kernel_words []) (fair kernel_words []) (Gave s) at s.regs s.cop0 s.bytes [] s.seen (counted s) small tt (λ x y n few. record { back = refl; regs = refl; cop0 = refl; bytes = refl; seen = refl; within = few }))
 
--- what a routine takes of it
-pub record KnowsRoom (C : Calls) : Type 1 where
+-- what a routine takes of it, where it stands
+pub record KnowsRoom (place : ℕ) (C : Calls) : Type 1 where
   pub fair : Fair C
-  pub room : (k : Part) (c : Registers) (z : Cop0) (m : Memory) (w : List Entry) (q : List Access) (p : ℕ) → c.r8 < 2 ^ 32 → ((x y n : ℕ) → n ≤ p + 30 → k (record c { r9 = room c.r8; r10 = x; r11 = y }) z m w q n) → Calling C ROOM c.r31 k c z m w q p
+  pub room : (k : Part) (c : Registers) (z : Cop0) (m : Memory) (w : List Entry) (q : List Access) (p : Count) → c.r8 < 2 ^ 32 → ((x y : ℕ) (n : Count) → n.steps ≤ p.steps + 30 → k (record c { r9 = room c.r8; r10 = x; r11 = y }) z m w q n) → Calling C place c.r31 k c z m w q p
 
-pub knows_room : KnowsRoom (calls kernel_words shared)
-knows_room = record {
-  fair = fair kernel_words shared;
+pub knows_room : (place : ℕ) (ls : List (ℕ × Tree)) → KnowsRoom place (calls kernel_words ((place, tree ROOM_NODES) ∷ ls))
+knows_room place ls = record {
+  fair = fair kernel_words ((place, tree ROOM_NODES) ∷ ls);
   room = λ k c z m w q p h x. record {
-    called = λ ok. first_call ROOM (tree ROOM_NODES) copy_there c.r31 (Anew k) (run c z m w q p) (gives (calls kernel_words copy_there) (fair kernel_words copy_there) k ROOM c z m w q p h ok x);
+    called = λ ok. first_call place (tree ROOM_NODES) ls c.r31 (Anew k) (run c z m w q p) refl (gives (calls kernel_words ls) (fair kernel_words ls) k place c z m w q p h ok x);
   };
 }
 
--- and of the four accesses
-abbrev pub places : Places
-places = record { read_byte = READ_BYTE; write_byte = WRITE_BYTE; read_word = READ_WORD; write_word = WRITE_WORD }
-
-pub knows_accesses : Knows places (calls kernel_words shared)
-knows_accesses =
-    knows_more places (ROOM, tree ROOM_NODES) ((COPY, tree COPY_NODES) ∷ tested_at places) (record { read_byte = refl; write_byte = refl; read_word = refl; write_word = refl })
-    (knows_more places (COPY, tree COPY_NODES) (tested_at places) (record { read_byte = refl; write_byte = refl; read_word = refl; write_word = refl })
-    (knows_tested places (record { write_byte = refl; read_word = refl; read_word' = refl; write_word = refl; write_word' = refl; write_word'' = refl })))
+-- and behind a listing that stands elsewhere
+pub knows_room_behind : (place : ℕ) (l : ℕ × Tree) (ls : List (ℕ × Tree)) → nat_eq place l.0 ≡ false → KnowsRoom place (calls kernel_words ls) → KnowsRoom place (calls kernel_words (l ∷ ls))
+knows_room_behind place l ls far know = record {
+  fair = fair kernel_words (l ∷ ls);
+  room = λ k c z m w q p h x. record { called = λ ok. later_call place l ls c.r31 (Anew k) (run c z m w q p) far ((know.room k c z m w q p h x).called ok) };
+}

@@ -31,7 +31,7 @@ pub record Copied (s : Run) (from to count : ℕ) (at : ℕ) (e : Run) : Type 0 
   pub cop0 : e.cop0 ≡ s.cop0
   pub words : WordsCopied s.bytes e.bytes from to count
   pub ports : ports e.seen ≡ ports s.seen
-  pub within : e.passed ≤ s.passed + (5 * count + 2)
+  pub within : e.steps ≤ s.steps + (8 * count + 4)
 
 abbrev pub CopiesWords : Tree → Type 0
 CopiesWords T = (at : ℕ) (s : Run) (from to count : ℕ) → NamesBlocks s.regs from to count → Meets kernel_words (calls kernel_words []) T at (λ _. ⊥) (λ b e. Copied s from to count b e) s

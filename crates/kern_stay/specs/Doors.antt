@@ -1,29 +1,31 @@
 -- What is asked of a routine: from where the table's entry leads, with the caller's context saved, its words come to one of the doors, where what is left of the stay is made.
-use Rattle.std.specs.Prelude.{◌≡◌, ℕ, ◌+◌, ◌*◌, ◌^◌, ◌<◌, ◌≤◌, false, cond, nat_eq, List, [], ◌∷◌, None}
+use Rattle.std.specs.Prelude.{◌≡◌, ℕ, ◌+◌, ◌*◌, ◌^◌, ◌<◌, ◌≤◌, ◌⊎◌, false, cond, nat_eq, List, [], ◌∷◌, ◌++◌, None}
 use Rattle.psx_base.specs.declared.stop.Stop.{Stop}
-use Rattle.psx_base.specs.declared.stop.Stop.TheVariants.{BadPointer}
+use Rattle.psx_base.specs.declared.stop.Stop.TheVariants.{BadPointer, BadThread, Deep}
 use Rattle.psx_base.specs.Context.{taken, epc_of}
 use Rattle.psx_base.specs.Memory.{Memory, byte, word}
 use Rattle.psx_base.specs.Registers.{Registers, register}
-use Rattle.psx_base.specs.KernelState.{KernelState}
+use Rattle.psx_base.specs.KernelState.{ThreadContext, Task, KernelState}
 use Rattle.psx_cpu.specs.Processor.{Cop0}
 use Rattle.psx_flow.specs.Tree.{Tree}
 use Rattle.psx_flow.specs.Run.{Run, Access}
 use Rattle.psx_flow.specs.Told.{ports}
 use Rattle.psx_flow.specs.Kernel.{kernel_words}
-use Rattle.psx_flow.specs.Reaches.{IsPlaced}
+use Rattle.psx_flow.specs.Reaches.{IsPlaced, ArePlaced}
 use Rattle.psx_flow.specs.Meets.{Goal, Meets, calls}
 use Rattle.kern_layout.specs.Numbers.{work_area}
 use Rattle.kern_layout.specs.Fields.{Block}
 use Rattle.kern_layout.specs.Contexts.{saved}
+use Rattle.kern_layout.specs.Tasks.{TasksAt}
 use Rattle.kern_layout.specs.Reads.{Reads}
 use Rattle.kern_layout.specs.Stands.{SameUser}
 use Rattle.kern_layout.specs.Valid.{Valid}
 use Rattle.abs_kernel.specs.Stay.{Stay, Return, Halt, Touch}
 use Rattle.abs_kernel.specs.Answered.{registers_of, with_running, with_answer}
-use Rattle.kern_stay.specs.declared.places.TheConstants.{LEAVE, WAIT, BAD_POINTER}
+use Rattle.abs_kernel.specs.Work.{IsWork}
+use Rattle.kern_stay.specs.declared.places.TheConstants.{LEAVE, WAIT, WORK, BAD_POINTER, BAD_THREAD, DEEP}
 use Rattle.kern_stay.specs.Follows.{after, Follows}
-use Rattle.kern_stay.specs.Shared.{shared}
+use Rattle.kern_stay.specs.Shared.{tested_there}
 
 -- While the kernel runs, a memory stands for a state: the work area holds the running context, the tables and variables are the state's, and so is user memory.
 pub record Holds (s : KernelState) (m : Memory) : Type 0 where
@@ -47,29 +49,48 @@ pub record Waits (t : KernelState) (e : Run) : Type 0 where
   pub is : t ≡ with_running state (taken state.running.context (epc_of state.running.context))
   pub holds : Holds state e.bytes
 
--- at BAD_POINTER: the stop names the address in r8 and the caller's r31
-pub record Refuses (stop : Stop) (memory : Memory) (e : Run) : Type 0 where
+-- at BAD_POINTER and BAD_THREAD: the stop names what r8 has, and the caller's r31
+pub record Refuses (named : (value ra : ℕ) → Stop) (stop : Stop) (memory : Memory) (e : Run) : Type 0 where
   pub state : KernelState
-  pub is : stop ≡ BadPointer e.regs.r8 (registers_of state).r31
+  pub is : stop ≡ named e.regs.r8 (registers_of state).r31
   pub memory_is : memory ≡ state.memory
   pub holds : Holds state e.bytes
+
+-- At DEEP: the stop names the address in r31, a caller's or that of an interrupt.
+pub record Overflows (stop : Stop) (memory : Memory) (e : Run) : Type 0 where
+  pub is : stop ≡ Deep e.regs.r31
+  pub user : SameUser e.bytes memory
 
 abbrev pub AtReturn : KernelState → ℕ → Goal
 AtReturn t to e = cond (nat_eq to LEAVE) (Answers t e) (cond (nat_eq to WAIT) (Waits t e) ⊥)
 
 abbrev pub AtHalt : Stop → Memory → ℕ → Goal
-AtHalt stop memory to e = cond (nat_eq to BAD_POINTER) (Refuses stop memory e) ⊥
+AtHalt stop memory to e = cond (nat_eq to BAD_POINTER) (Refuses BadPointer stop memory e) (cond (nat_eq to BAD_THREAD) (Refuses BadThread stop memory e) (cond (nat_eq to DEEP) (Overflows stop memory e) ⊥))
 
--- Behind its accesses to ports a stay is at its end, but for what it touches. A unit that it touches is worth so many nodes.
+-- At WORK: the work area holds a context and the tasks that come before it is taken up, and what is left of the stay is to do these. r2 has the answer of the function that has returned, and r31 what a stop names.
+-- What is left with a task is in abs_kernel's `IsWork`, which knows none yet.
+pub record Works (rest : Stay) (e : Run) : Type 0 where
+  pub state : KernelState
+  pub context : ThreadContext
+  pub tasks : List Task
+  pub is : IsWork state context tasks e.regs.r2 e.regs.r31 rest
+  pub holds : Holds (record state { running = context }) e.bytes
+  pub there : TasksAt (word e.bytes) work_area tasks
+
+-- What is left at WORK is no end yet, so this door stands beside those of an end.
+abbrev pub AtWork : Stay → (most to : ℕ) → Goal
+AtWork rest most to e = (to ≡ WORK) × (e.steps ≤ most) × Works rest e
+
+-- Behind its accesses to ports a stay is at its end, but for what it touches. A unit that it touches is worth so many steps.
 abbrev pub Ends : (worth : ℕ) → Stay → (most to : ℕ) → Goal
-Ends worth (Return t) most to e = (e.passed ≤ most) × AtReturn t to e
-Ends worth (Halt stop memory) most to e = (e.passed ≤ most) × AtHalt stop memory to e
+Ends worth (Return t) most to e = (e.steps ≤ most) × AtReturn t to e
+Ends worth (Halt stop memory) most to e = (e.steps ≤ most) × AtHalt stop memory to e
 Ends worth (Touch bytes next) most to e = Ends worth next (most + worth * bytes) to e
 Ends worth _ most to e = ⊥
 
--- A unit is worth 32 nodes, so 128 steps, where no port is accessed. A listing that accesses ports has its bound alone.
+-- A unit is worth 128 steps where no port is accessed. A listing that accesses ports has its bound alone.
 abbrev pub worth_of : List Access → ℕ
-worth_of [] = 32
+worth_of [] = 128
 worth_of (x ∷ q) = 0
 
 -- a stay comes through a door
@@ -77,7 +98,7 @@ pub record Through (stay : Stay) (most to : ℕ) (e : Run) : Type 0 where
   pub told : List Access
   pub ports : ports e.seen ≡ told
   pub follows : Follows stay told
-  pub ends : Ends (worth_of told) (after stay told) most to e
+  pub ends : Ends (worth_of told) (after stay told) most to e ⊎ AtWork (after stay told) most to e
 
 -- ---- a routine
 
@@ -93,21 +114,27 @@ abbrev pub called_with : Registers → Registers → Registers
 called_with a d = record d { r4 = a.r4; r5 = a.r5; r6 = a.r6; r7 = a.r7; r29 = a.r29 }
 
 abbrev pub begun : Registers → Cop0 → Memory → Run
-begun c z m = record { regs = c; cop0 = z; bytes = m; seen = []; passed = 0 }
+begun c z m = record { regs = c; cop0 = z; bytes = m; seen = []; passed = 0; steps = 0 }
 
--- at most 8,192 steps, so 2,048 nodes, and 128 more for each unit that is touched
-abbrev pub most_nodes : ℕ
-most_nodes = 2048
+-- the steps of a call, with 128 more for each unit that is touched
+abbrev pub most_steps : ℕ
+most_steps = 8192
 
--- a listing at an address serves a call
-abbrev pub Serves : (KernelState → Stay) → ℕ → Tree → Type 0
-Serves stay at T =
+-- those of a call of the heap
+abbrev pub most_heap_steps : ℕ
+most_heap_steps = 32768
+
+-- A listing at an address serves a call, within so many steps. It calls listings of its own range, each of which calls those behind it, and the four accesses to user memory.
+abbrev pub Serves : (own : List (ℕ × Tree)) → (most : ℕ) → (KernelState → Stay) → ℕ → Tree → Type 0
+Serves own most stay at T =
     (s : KernelState) (d : Registers) (z : Cop0) (m : Memory) → Arrives s m
-    → Meets kernel_words (calls kernel_words shared) T at (λ _. ⊥) (λ to e. Through (stay s) most_nodes to e) (begun (called_with (registers_of s) d) z m)
+    → Meets kernel_words (calls kernel_words (own ++ tested_there)) T at (λ _. ⊥) (λ to e. Through (stay s) most to e) (begun (called_with (registers_of s) d) z m)
 
--- a call is served by a listing that stands at an address
-pub record IsServed (m : Memory) (stay : KernelState → Stay) (at : ℕ) : Type 0 where
+-- a call is served, within so many steps, by a listing that stands at an address, and so do those of its own range that it calls
+pub record IsServed (m : Memory) (most : ℕ) (stay : KernelState → Stay) (at : ℕ) : Type 0 where
   pub there : at ≡ 0 → ⊥
+  pub own : List (ℕ × Tree)
+  pub own_placed : ArePlaced kernel_words m own
   pub listing : Tree
   pub placed : IsPlaced kernel_words m at listing
-  pub serves : Serves stay at listing
+  pub serves : Serves own most stay at listing

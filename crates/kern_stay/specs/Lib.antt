@@ -6,3 +6,4 @@ pub mod Doors
 pub mod Loops
 pub mod Copy
 pub mod Switch
+pub mod Served

@@ -30,7 +30,7 @@ pub record Given (s : Run) (to : ℕ) (e : Run) : Type 0 where
   pub cop0 : e.cop0 ≡ s.cop0
   pub bytes : e.bytes ≡ s.bytes
   pub seen : e.seen ≡ s.seen
-  pub within : e.passed ≤ s.passed + 30
+  pub within : e.steps ≤ s.steps + 30
 
 abbrev pub GivesRoom : Tree → Type 0
 GivesRoom T = (at : ℕ) (s : Run) → s.regs.r8 < 2 ^ 32 → Meets kernel_words (calls kernel_words []) T at (λ _. ⊥) (λ to e. Given s to e) s

@@ -1,6 +1,7 @@
 -- Words at their places, by addresses in bytes.
-use Rattle.std.specs.Prelude.{◌≡◌, ℕ, ◌+◌, ◌-◌, ◌*◌, ◌/◌, ◌%◌, ◌^◌, ◌<◌, List, [], ◌∷◌, length, slice_index, if◌then◌else◌, ◌&&◌, nat_lt, nat_le}
+use Rattle.std.specs.Prelude.{◌≡◌, ℕ, ◌+◌, ◌-◌, ◌*◌, ◌/◌, ◌%◌, ◌^◌, ◌<◌, List, [], ◌∷◌, length, slice_index, if◌then◌else◌, ◌&&◌, nat_lt, nat_le, IsTrue}
 use Rattle.psx_flow.specs.declared.node.Node.{Node}
+use Rattle.psx_flow.specs.Tree.{size}
 use Rattle.psx_flow.specs.Lowered.{lowered}
 use Rattle.kern_stay.specs.Shared.{tree}
 
@@ -16,6 +17,10 @@ overlaid (p ∷ ps) f = over p.0 p.1 (overlaid ps f)
 -- a listing that runs at an address of the cached segment stands at the physical one
 abbrev pub listing : (at : ℕ) → List Node → ℕ × List ℕ
 listing at nodes = (at % 2 ^ 29, lowered (tree nodes) at)
+
+-- a listing ends where the next one begins, or before it
+abbrev pub EndsBy : (at : ℕ) → List Node → (next : ℕ) → Type 0
+EndsBy at nodes next = IsTrue (nat_le (at + 4 * size (tree nodes)) next)
 
 -- each piece's words stand at its address
 abbrev pub Stand : (ℕ → ℕ) → List (ℕ × List ℕ) → Type 0

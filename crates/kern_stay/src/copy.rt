@@ -20,7 +20,7 @@ pub const COPY_NODES: [Node; 7] = [
     Node::JumpTo(register!(r31)),
 ];
 
-/// The listing that copies words of the kernel's data. It comes back to r31.
+/// The listing that copies words of the kernel's data. It comes back to r31. Each crate whose routines call it places one in its range.
 pub fn copy() -> &'static [Node]
     ensures listing { result.now ≡ COPY_NODES }
     ensures well { IsTrue (is_well result.now) }

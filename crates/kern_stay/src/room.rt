@@ -52,7 +52,7 @@ pub const ROOM_NODES: [Node; 39] = [
     Node::JumpTo(register!(r31)),
 ];
 
-/// The listing that gives r9 the number of bytes of user memory from the address in r8 on, 0 where it is none. It comes back to r31.
+/// The listing that gives r9 the number of bytes of user memory from the address in r8 on, 0 where it is none. It comes back to r31. Each crate whose routines call it places one in its range.
 pub fn room() -> &'static [Node]
     ensures listing { result.now ≡ ROOM_NODES }
     ensures well { IsTrue (is_well result.now) }

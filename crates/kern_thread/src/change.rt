@@ -8,7 +8,8 @@ ghost use Rattle.kern_thread.specs.declared.change.TheConstants.{NODES};
 ghost use Rattle.kern_thread.specs.declared.places.TheConstants.{CHANGE};
 
 use crate::places;
-use kern_stay::places::{COPY, WAIT};
+use crate::places::COPY;
+use kern_stay::places::WAIT;
 use psx_flow::{Node, Test, op, register};
 
 /// r4 is the handle. r13 is its number, r15 its block's address, r17 that of the running thread's block, and r14 that of the context in the work area.

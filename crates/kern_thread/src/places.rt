@@ -6,6 +6,9 @@ use kern_stay::places::CACHED;
 /// The listing of ChangeThread.
 pub const CHANGE: u32 = CACHED + THREAD_CODE.from;
 
+/// The listing that copies words of the kernel's data.
+pub const COPY: u32 = CHANGE + 0xC0;
+
 /// The upper half of the data's addresses, 1 more since the lower half counts as negative.
 pub const DATA: u16 = 0x8001;
 

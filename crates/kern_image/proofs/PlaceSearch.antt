@@ -1,0 +1,16 @@
+-- A search of places, place by place.
+use Rattle.std.proofs.Common.{◌≡◌, ℕ, zero, suc, ◌+◌, ◌<◌, Bool, false, List, [], ◌∷◌, length, get_or, drop, refl, sym, ap, ◌∙◌, arith}
+use Rattle.std.specs.Prelude.{if◌then◌else◌}
+use Rattle.abs_kernel.specs.declared.calls.CallId.{CallId}
+use Rattle.abs_kernel.specs.CallTable.{same_call}
+use Rattle.kern_image.specs.declared.places.Place.{Place}
+use Rattle.kern_image.specs.Tables.{place_of}
+
+-- behind the place of another call it goes on
+place_next : (ps : List Place) (i : ℕ) (id : CallId) (d : Place) → i < length ps → same_call (get_or ps i d).call id ≡ false → place_of (drop (suc i) ps) id ≡ place_of (drop i ps) id
+place_next [] i id d low other = absurd (omega (arith, low))
+place_next (p ∷ ps) zero id d low other = sym (ap (λ b. if b then p.at else place_of ps id) other)
+place_next (p ∷ ps) (suc i) id d low other = place_next ps i id d (omega (arith, low)) other
+
+pub place_on : (ps : List Place) (i : ℕ) (id : CallId) (d : Place) → i < length ps → same_call (get_or ps i d).call id ≡ false → place_of (drop (i + 1) ps) id ≡ place_of (drop i ps) id
+place_on ps i id d low other = let e : i + 1 ≡ suc i = omega arith in ap (λ n. place_of (drop n ps) id) e ∙ place_next ps i id d low other

@@ -1,0 +1,86 @@
+-- Each call is served at the address that the tables have for it.
+use Rattle.std.proofs.Common.{◌≡◌, ℕ, Bool, true, false, List, [], ◌∷◌, ◌++◌, Option, Some, None, refl, ap, ◌+◌, ◌≤◌, subst, rules, tests, arith, ⊎_elim}
+use Rattle.std.specs.Prelude.{unwrap_or, if◌then◌else◌}
+use Rattle.psx_base.specs.Memory.{Memory, word}
+use Rattle.kern_layout.specs.Stands.{HoldsRom}
+use Rattle.abs_kernel.specs.declared.calls.CallId.{CallId}
+use Rattle.abs_kernel.specs.declared.calls.CallId.TheVariants.{A06, A3A, B38}
+use Rattle.abs_kernel.specs.Calls.{call}
+use Rattle.abs_kernel.specs.CallTable.{same_call}
+use Rattle.kern_stay.specs.Doors.{IsServed, most_steps}
+use Rattle.kern_stay.specs.Loops.{IsServedBy}
+use Rattle.kern_stay.specs.Served.{EachAt, AllServed}
+use Rattle.kern_entry.specs.declared.places.TheConstants.{EXIT}
+use Rattle.kern_entry.proofs.Joins.{exit_called}
+use Rattle.kern_mem.specs.MemLaws.{mem_calls}
+use Rattle.kern_mem.proofs.Served.{mem_serves}
+use Rattle.kern_file.specs.FileLaws.{file_calls}
+use Rattle.kern_file.proofs.Served.{file_serves}
+use Rattle.kern_image.specs.Rom.{rom}
+use Rattle.kern_image.specs.Tables.{routine_of}
+use Rattle.kern_image.proofs.StaysServed.{Serving, serving_more, by_listing, by_own}
+use Rattle.kern_image.proofs.StaysLoops.{by_loop}
+use Rattle.kern_image.proofs.StaysHeld.{holds_entry, pieces}
+
+-- ---- a call among others
+
+same_is : (a b : CallId) → same_call a b ≡ true → a ≡ b
+same_is a b h = search (rules, tests)
+
+-- the address that a list has for a call
+abbrev find : List (CallId × ℕ) → CallId → Option ℕ
+find [] id = None
+find (p ∷ ps) id = if same_call p.0 id then Some p.1 else find ps id
+
+found : (P : CallId → ℕ → Type 0) (ps : List (CallId × ℕ)) (id : CallId) (at : ℕ) → EachAt P ps → find ps id ≡ Some at → P id at
+found P [] id at h e = absurd (cc)
+found P (p ∷ ps) id at h e = go (same_call p.0 id) refl (λ q. found P ps id at h.1 q) e
+  where
+    go : (b : Bool) → same_call p.0 id ≡ b → (find ps id ≡ Some at → P id at) → (if b then Some p.1 else find ps id) ≡ Some at → P id at
+    go true w later q = subst (λ i. P i at) (same_is p.0 id w) (subst (P p.0) (ap (λ o. unwrap_or o 0) q) h.0)
+    go false w later q = later q
+
+each_both : (P : CallId → ℕ → Type 0) (ps qs : List (CallId × ℕ)) → EachAt P ps → EachAt P qs → EachAt P (ps ++ qs)
+each_both P [] qs h g = g
+each_both P (p ∷ ps) qs h g = (h.0, each_both P ps qs h.1 g)
+
+-- ---- all calls
+
+-- those of the entry's crate
+abbrev entry_calls : List (CallId × ℕ)
+entry_calls = (A06, EXIT) ∷ (A3A, EXIT) ∷ (B38, EXIT) ∷ []
+
+-- crate by crate
+abbrev all_calls : List (CallId × ℕ)
+all_calls = entry_calls ++ (mem_calls ++ file_calls)
+
+-- the tables have each call at its crate's address
+placed : (id : CallId) → find all_calls id ≡ Some (routine_of id)
+placed A06 = refl
+placed _ = refl
+
+module _ (m : Memory) (code : HoldsRom m rom) where
+  -- with the steps that the entry leaves of 20,480
+  abbrev ServingAt : CallId → ℕ → Type 0
+  ServingAt id at = Serving rom m (holds_entry m code) code 20278 (call id) at
+
+  within : (few : ℕ) (id : CallId) (at : ℕ) → few ≤ 20278 → Serving rom m (holds_entry m code) code few (call id) at → ServingAt id at
+  within few id at less s = serving_more rom m (holds_entry m code) code few 20278 (call id) at less s
+
+  by_entry : EachAt ServingAt entry_calls
+  by_entry = let exit = within 203 A06 EXIT (omega arith) (by_own rom m (holds_entry m code) code (call A06) EXIT exit_called) in (exit, (exit, (exit, tt)))
+
+  by_crate : (ps : List (CallId × ℕ)) → AllServed m most_steps ps → EachAt ServingAt ps
+  by_crate [] h = tt
+  by_crate (p ∷ ps) h =
+      let one = λ (s : IsServed m most_steps (call p.0) p.1). within (73 + most_steps) p.0 p.1 (omega arith) (by_listing rom m (holds_entry m code) code most_steps (call p.0) p.1 s) in
+      let two = λ (s : IsServedBy m most_steps (call p.0) p.1). within (73 + most_steps + most_steps) p.0 p.1 (omega arith) (by_loop rom m (holds_entry m code) code most_steps (call p.0) p.1 s) in
+      (⊎_elim one two h.0, by_crate ps h.1)
+
+  all_serve : EachAt ServingAt all_calls
+  all_serve =
+      let w = (pieces m code).1.1.1 in
+      each_both ServingAt entry_calls (mem_calls ++ file_calls) by_entry (each_both ServingAt mem_calls file_calls (by_crate mem_calls (mem_serves m w.0)) (by_crate file_calls (file_serves m w.1.1.0)))
+
+  pub served : (id : CallId) → ServingAt id (routine_of id)
+  served id = found ServingAt all_calls id (routine_of id) all_serve (placed id)

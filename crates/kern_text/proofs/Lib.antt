@@ -1,0 +1,2 @@
+pub mod A1bStrlen
+pub mod Served
