@@ -12,6 +12,7 @@ use Rattle.psx_cpu.specs.Effect.{effect}
 use Rattle.psx_cpu.specs.Exceptions.{leave, left_sr, takes_interrupt}
 use Rattle.psx_cpu.specs.Guard.{guard, guard_word}
 use Rattle.psx_cpu.specs.Step.{Stops, Leaves, entered, passed, step}
+use Rattle.psx_cpu.proofs.KernelSide.{step_executes}
 use Rattle.psx_flow.specs.Run.{Run, Access, state_at}
 use Rattle.psx_flow.specs.Plain.{kernel_core}
 use Rattle.psx_flow.specs.Kernel.{kernel_words}
@@ -27,19 +28,9 @@ use Rattle.kern_entry.proofs.Walk.{within_backs, within_here}
 use Rattle.kern_entry.proofs.WalkSteps.{one}
 use Rattle.kern_entry.proofs.Leaving.{Resumed}
 
-no_interrupt : (p : Processor) (line : Bool) → p.cop0.sr % 2 ≡ 0 → takes_interrupt p line ≡ false
-no_interrupt p false h = refl
-no_interrupt p true h = ap (λ b. if b then nat_eq (p.cop0.sr / 2 ^ 10 % 2) 1 else false) (ne_eqb (p.cop0.sr % 2) 1 (λ e. omega (arith, e)))
-
 -- RFE on the kernel's side leaves it
 rfe_leaves : (x : State) (bus : Bus) → x.context.pc % 4 ≡ 0 → x.cop0.sr % 2 ≡ 0 → instruction_of (read_word x.bytes x.context.pc) ≡ Some RFE → step (kernel_core x) bus ≡ Leaves (record (kernel_core x) { processor = leave (kernel_core x).processor })
-unfolding step
-rfe_leaves x bus even off is =
-    let k = kernel_core x in
-    let w = read_word x.bytes x.context.pc in
-    ap (λ b. if b then entered k (record { code = 0; bad = None }) else guard Stops (entered k) (passed k bus) x.context true w) (no_interrupt k.processor bus.line off)
-    ∙ ap (λ b. if b then guard_word Stops (entered k) (passed k bus) x.context true w (instruction_of w) else entered k (record { code = 4; bad = Some x.context.pc })) (eq-eqb (x.context.pc % 4) 0 even)
-    ∙ ap (guard_word Stops (entered k) (passed k bus) x.context true w) is
+rfe_leaves x bus even off is = step_executes x.context x.cop0 x.bytes bus RFE even off is refl
 
 -- the context that is taken up
 abbrev pub back_to : Registers → ℕ → Context

@@ -15,7 +15,7 @@ use Rattle.psx_flow.specs.Well.{is_op, is_register, test_fits, fits}
 use Rattle.psx_flow.specs.Spaced.{load_of}
 use Rattle.psx_flow.specs.Lowered.{opposite, always, nop, branch, target_of, code, in_reach, in_region, reaches}
 use Rattle.psx_flow.specs.Run.{Run, Access, state_at, done}
-use Rattle.psx_flow.specs.Meets.{Holds, passing, branching, linking, Goal, Calls, Turns, Meets, calls}
+use Rattle.psx_flow.specs.Meets.{TestHolds, passing, branching, linking, Goal, Calls, Turns, Meets, calls}
 use Rattle.psx_flow.specs.Plain.{kernel_core}
 use Rattle.psx_flow.specs.Reaches.{Keeps, IsPlaced, ArePlaced}
 use Rattle.psx_flow.proofs.Rules.{decided, fair, meets_back}
@@ -102,8 +102,8 @@ module _ (kept : ℕ → Bool) (first : Memory) (P : ℕ → Aim) (backs : Backs
     turns : (n : ℕ) (t : Test) (at back end : ℕ) (body : Goal → Goal) (K : Goal) (G : ℕ → Goal) (b : ℕ) → most ≤ b
         → ((L : Goal) (m : Run) → Keeps kept first m → Open b back L G → body L m → At b m (at + 8))
         → ((L : Goal) (m : Run) → Low most L → body L m → m.steps ≤ most)
-        → ((j : ℕ) (m : Run) → Keeps kept first m → Holds t m.regs → P j (kernel_core (state_at m (at + 8))) m.seen → P (suc (suc j)) (kernel_core (state_at m at)) m.seen)
-        → ((j : ℕ) (m : Run) → Keeps kept first m → Holds (opposite t) m.regs → P j (kernel_core (state_at m end)) m.seen → P (suc (suc j)) (kernel_core (state_at m at)) m.seen)
+        → ((j : ℕ) (m : Run) → Keeps kept first m → TestHolds t m.regs → P j (kernel_core (state_at m (at + 8))) m.seen → P (suc (suc j)) (kernel_core (state_at m at)) m.seen)
+        → ((j : ℕ) (m : Run) → Keeps kept first m → TestHolds (opposite t) m.regs → P j (kernel_core (state_at m end)) m.seen → P (suc (suc j)) (kernel_core (state_at m at)) m.seen)
         → ((j : ℕ) (m : Run) → Keeps kept first m → P j (kernel_core (state_at m at)) m.seen → P (suc (suc j)) (kernel_core (state_at m back)) m.seen)
         → Open b end K G → (s : Run) → Keeps kept first s → Turns n t body K s → At b s at
     turns zero t at back end body K G b least walks lower into past again o s ks h = absurd h

@@ -19,7 +19,7 @@ use Rattle.psx_flow.specs.Tree.{Tree, Do}
 use Rattle.psx_flow.specs.Well.{enters_or_leaves, is_op, test_fits}
 use Rattle.psx_flow.specs.Lowered.{opposite, nop, branch, distance, in_reach}
 use Rattle.psx_flow.specs.Run.{Run, Access, accessed, state_at, done}
-use Rattle.psx_flow.specs.Meets.{Holds}
+use Rattle.psx_flow.specs.Meets.{TestHolds}
 use Rattle.psx_flow.specs.Plain.{seen_by, seen_at, kernel_core}
 use Rattle.psx_flow.specs.Reaches.{Keeps}
 use Rattle.psx_flow.proofs.Delay.{neither}
@@ -70,7 +70,7 @@ module _ (kept : ℕ → Bool) (first : Memory) (P : ℕ → Aim) (backs : Backs
       one (suc n) (state_at s at) s.seen i l.aligned ks.masked (fetched kept first s at i ks l fit) gate none
       (λ bus lt. subst (λ y. P (suc n) (kernel_core y) (accessed i (state_at s at) bus s.seen)) (sym (goes bus)) (subst (λ q. P (suc n) (kernel_core (in_slot e ((at + 4) % 2 ^ 32) to)) q) (sym (same bus)) slot))
 
-  pub taken : (n : ℕ) (t : Test) (s : Run) (at to : ℕ) → Keeps kept first s → LiesAs kept first at (branch t at to) → LiesAs kept first (at + 4) nop → test_fits t ≡ true → in_reach at to ≡ true → to % 4 ≡ 0 → Holds t s.regs
+  pub taken : (n : ℕ) (t : Test) (s : Run) (at to : ℕ) → Keeps kept first s → LiesAs kept first at (branch t at to) → LiesAs kept first (at + 4) nop → test_fits t ≡ true → in_reach at to ≡ true → to % 4 ≡ 0 → TestHolds t s.regs
       → P n (kernel_core (state_at s to)) s.seen → P (suc (suc n)) (kernel_core (state_at s at)) s.seen
   taken n t s at to k l m fit near even y =
       let wrap = no_wrap at l.mapped in
@@ -78,7 +78,7 @@ module _ (kept : ℕ → Bool) (first : Memory) (P : ℕ → Aim) (backs : Backs
       two n (branch t at to) s s at to k k l m (branch_fits t (distance at to) fit (word_field _)) (branch_stays t (distance at to)) (branch_trap t (distance at to) (state_at s at))
       (λ bus. branch_after t (distance at to) s at bus true (passes t s.regs y) ∙ ap (in_slot s ((at + 4) % 2 ^ 32)) dest) (λ bus. branch_seen t (distance at to) (state_at s at) bus s.seen)
 
-  pub passed_by : (n : ℕ) (t : Test) (s : Run) (at to : ℕ) → Keeps kept first s → LiesAs kept first at (branch (opposite t) at to) → LiesAs kept first (at + 4) nop → test_fits t ≡ true → Holds t s.regs
+  pub passed_by : (n : ℕ) (t : Test) (s : Run) (at to : ℕ) → Keeps kept first s → LiesAs kept first at (branch (opposite t) at to) → LiesAs kept first (at + 4) nop → test_fits t ≡ true → TestHolds t s.regs
       → P n (kernel_core (state_at s (at + 8))) s.seen → P (suc (suc n)) (kernel_core (state_at s at)) s.seen
   passed_by n t s at to k l m fit y =
       let e8 : at + 4 + 4 ≡ at + 8 = omega arith in

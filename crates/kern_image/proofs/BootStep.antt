@@ -3,7 +3,6 @@ use Rattle.std.proofs.Common.{◌≡◌, ℕ, ◌+◌, ◌*◌, ◌/◌, ◌%◌
 use Rattle.std.specs.Prelude.{nat_eq, ◌&&◌, ◌||◌, slice_index, if◌then◌else◌}
 use Rattle.psx_ins.specs.declared.ins.Ins.{Ins}
 use Rattle.psx_ins.specs.Decoding.{instruction_of}
-use Rattle.psx_base.specs.declared.stop.Stop.TheVariants.{Protected, SlotBranch}
 use Rattle.psx_base.specs.Memory.{Memory, byte, word, is_mapped, is_writable}
 use Rattle.psx_base.specs.Addresses.{top, low, place}
 use Rattle.psx_base.specs.PortAddresses.{port}
@@ -11,56 +10,15 @@ use Rattle.psx_base.specs.Context.{Context}
 use Rattle.psx_ram.specs.Words.{word_at}
 use Rattle.psx_cpu.specs.Processor.{Core, Cop0, Bus, Processor}
 use Rattle.psx_cpu.specs.DataAccess.{read_word}
-use Rattle.psx_cpu.specs.Traps.{DataUse, data_use, is_aligned, misaligned, use_trap, own_trap}
-use Rattle.psx_cpu.specs.Exceptions.{takes_interrupt}
-use Rattle.psx_cpu.specs.Guard.{guard_data, guard_instruction, guard_word, guard, is_branch, is_protected}
-use Rattle.psx_cpu.specs.Step.{Stops, entered, executed, performed, passed, step}
+use Rattle.psx_cpu.specs.Traps.{data_use, use_trap, own_trap, or_else}
+use Rattle.psx_cpu.specs.Step.{executed, step}
+use Rattle.psx_cpu.proofs.KernelSide.{step_executes}
 use Rattle.kern_image.proofs.BootWalk.{core}
-
-not_user : (a b : Bool) → (a && (b && false)) ≡ false
-not_user true true = refl
-not_user true false = refl
-not_user false b = refl
-
-not_protected : (a : Bool) → (a && false) ≡ false
-not_protected true = refl
-not_protected false = refl
-
-no_interrupt : (p : Processor) (line : Bool) → p.cop0.sr % 2 ≡ 0 → takes_interrupt p line ≡ false
-no_interrupt p false h = refl
-no_interrupt p true h = ap (λ b. if b then nat_eq (p.cop0.sr / 2 ^ 10 % 2) 1 else false) (ne_eqb (p.cop0.sr % 2) 1 (λ e. omega (arith, e)))
-
-module _ (k : Core) (bus : Bus) where
-  data_passes : (c : Context) (i : Ins) (u : Option DataUse) → use_trap u ≡ None → guard_data Stops (entered k) (passed k bus) c true i u ≡ passed k bus i
-  data_passes c i None h = refl
-  data_passes c i (Some u) h = go (is_aligned u.at u.multiple) h
-    where
-      go : (b : Bool) → (if b then None else Some (misaligned u)) ≡ None → (if b then passed k bus i else entered k (misaligned u)) ≡ passed k bus i
-      go true h = refl
-      go false h = absurd cc
-
-  instruction_passes : (c : Context) (i : Ins) → use_trap (data_use i c) ≡ None → guard_instruction Stops (entered k) (passed k bus) c true i ≡ passed k bus i
-  instruction_passes c i h =
-      ap (λ b. if b then Stops (SlotBranch c.pc) else (if is_protected i && false then Stops (Protected c.pc) else guard_data Stops (entered k) (passed k bus) c true i (data_use i c))) (not_user (is_branch i) c.in_slot)
-      ∙ ap (λ b. if b then Stops (Protected c.pc) else guard_data Stops (entered k) (passed k bus) c true i (data_use i c)) (not_protected (is_protected i))
-      ∙ data_passes c i (data_use i c) h
-
-  word_passes : (c : Context) (w : ℕ) (i : Ins) → c.pc % 4 ≡ 0 → instruction_of w ≡ Some i → use_trap (data_use i c) ≡ None → guard Stops (entered k) (passed k bus) c true w ≡ passed k bus i
-  word_passes c w i even is h =
-      ap (λ b. if b then guard_word Stops (entered k) (passed k bus) c true w (instruction_of w) else entered k (record { code = 4; bad = Some c.pc })) (eq-eqb (c.pc % 4) 0 even)
-      ∙ ap (guard_word Stops (entered k) (passed k bus) c true w) is
-      ∙ instruction_passes c i h
 
 -- a step on the kernel's side executes the instruction at pc
 pub step_is : (c : Context) (z : Cop0) (m : Memory) (bus : Bus) (i : Ins) → c.pc % 4 ≡ 0 → z.sr % 2 ≡ 0 → instruction_of (read_word m c.pc) ≡ Some i → use_trap (data_use i c) ≡ None → own_trap i c ≡ None
     → step (core c z m) bus ≡ executed (core c z m) bus i
-unfolding step
-step_is c z m bus i even off is plain none =
-    let k = core c z m in
-    let w = read_word m c.pc in
-    ap (λ b. if b then entered k (record { code = 0; bad = None }) else guard Stops (entered k) (passed k bus) c true w) (no_interrupt k.processor bus.line off)
-    ∙ word_passes k bus c w i even is plain
-    ∙ ap (performed k bus i) none
+step_is c z m bus i even off is plain none = step_executes c z m bus i even off is (ap (λ t. or_else t (own_trap i c)) plain ∙ none)
 
 -- ---- addresses
 

@@ -19,7 +19,7 @@ use Rattle.psx_flow.specs.declared.node.Test.TheVariants.{Same, Differ, NotAbove
 use Rattle.psx_flow.specs.Well.{enters_or_leaves, is_register, test_fits}
 use Rattle.psx_flow.specs.Lowered.{opposite, branch_by, distance, in_reach, in_region}
 use Rattle.psx_flow.specs.Run.{Run, Access, accessed, state_at}
-use Rattle.psx_flow.specs.Meets.{Holds}
+use Rattle.psx_flow.specs.Meets.{TestHolds}
 use Rattle.psx_flow.proofs.Step.{both}
 
 -- ---- addresses
@@ -155,7 +155,7 @@ negative_is v h = grind arith
 not_negative_is : (v : ℕ) → v < 2 ^ 31 → nat_le (2 ^ 31) v ≡ false
 not_negative_is v h = grind arith
 
-pub passes : (t : Test) (c : Registers) → Holds t c → test t c ≡ true
+pub passes : (t : Test) (c : Registers) → TestHolds t c → test t c ≡ true
 passes (Same a b) c h = eq-eqb _ _ h
 passes (Differ a b) c h = ap not (ne_eqb _ _ h)
 passes (NotAbove a) c h = not_above_is _ h
@@ -163,7 +163,7 @@ passes (Above a) c h = ap not (above_is _ h.0 h.1)
 passes (Negative a) c h = negative_is _ h
 passes (NotNegative a) c h = ap not (not_negative_is _ h)
 
-pub fails : (t : Test) (c : Registers) → Holds t c → test (opposite t) c ≡ false
+pub fails : (t : Test) (c : Registers) → TestHolds t c → test (opposite t) c ≡ false
 fails (Same a b) c h = ap not (eq-eqb _ _ h)
 fails (Differ a b) c h = ne_eqb _ _ h
 fails (NotAbove a) c h = ap not (not_above_is _ h)

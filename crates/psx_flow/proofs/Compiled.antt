@@ -17,7 +17,7 @@ use Rattle.psx_flow.specs.Well.{is_op, is_register, test_fits, fits}
 use Rattle.psx_flow.specs.Spaced.{load_of}
 use Rattle.psx_flow.specs.Lowered.{opposite, always, nop, branch, target_of, code, in_reach, in_region, reaches}
 use Rattle.psx_flow.specs.Run.{Run, state_at, done}
-use Rattle.psx_flow.specs.Meets.{Holds, passing, branching, linking, Goal, Calls, Turns, MeetsEach}
+use Rattle.psx_flow.specs.Meets.{TestHolds, passing, branching, linking, Goal, Calls, Turns, MeetsEach}
 use Rattle.psx_flow.specs.Plain.{Execution, executing}
 use Rattle.psx_flow.specs.Reaches.{Keeps}
 use Rattle.psx_flow.proofs.Rules.{decided}
@@ -73,8 +73,8 @@ module _ (kept : ℕ → Bool) (bus : ℕ → Bus) (few : (n : ℕ) → (bus n).
         → ((L : Goal) (d : ℕ) (e : Run) → Keeps kept first e → MeetsEach kept C a (at + 8) L I G e → From kept bus first d e (at + 8) (EndsAt (at + (8 + 4 * size a)) L I G))
         → ((d : ℕ) (e : Run) → Keeps kept first e → K e → From kept bus first d e end Z)
         → ((e : Run) (b : ℕ) → I b e ⊎ G b e → Z e b)
-        → ((d : ℕ) (e : Run) → Keeps kept first e → Holds t e.regs → Moves kept bus first 2 (executing e at d) (executing e (at + 8) (d + 2)))
-        → ((d : ℕ) (e : Run) → Keeps kept first e → Holds (opposite t) e.regs → Moves kept bus first 2 (executing e at d) (executing e end (d + 2)))
+        → ((d : ℕ) (e : Run) → Keeps kept first e → TestHolds t e.regs → Moves kept bus first 2 (executing e at d) (executing e (at + 8) (d + 2)))
+        → ((d : ℕ) (e : Run) → Keeps kept first e → TestHolds (opposite t) e.regs → Moves kept bus first 2 (executing e at d) (executing e end (d + 2)))
         → ((d : ℕ) (e : Run) → Keeps kept first e → Moves kept bus first 2 (executing e (at + (8 + 4 * size a)) d) (executing e at (d + 2)))
         → Keeps kept first s → Turns n t (λ L. MeetsEach kept C a (at + 8) L I G) K s → From kept bus first c s at Z
     turns_run zero c t a at end Z I G K s body rest out into past back ks h = absurd h

@@ -12,7 +12,7 @@ use Rattle.psx_flow.specs.Run.{Run, done, spares}
 use Rattle.psx_flow.specs.Meets.{passing, branching, Goal, Calls, Turns, MeetsEach, Meets, calls}
 use Rattle.psx_flow.specs.Reaches.{Keeps, IsPlaced, ArePlaced, Reaches}
 use Rattle.psx_flow.specs.Laws.{RunsTo}
-use Rattle.psx_flow.specs.Runs.{Ending, Falls, Jumps, JumpsTo, Then, TurnsOf, Called, any, Runs, called}
+use Rattle.psx_flow.specs.Runs.{Ending, Falls, Jumps, JumpsTo, Then, TurnsOf, Called, Runs, called}
 use Rattle.psx_flow.specs.Plain.{executing}
 use Rattle.psx_flow.proofs.Rules.{Fair, fair, each_mono}
 use Rattle.psx_flow.specs.Lowered.{code}
@@ -144,10 +144,3 @@ module _ (kept : ℕ → Bool) (may : Ins → Context → Bool) (sparing : (i : 
       where
         split : (e : Run) (to : ℕ) → EndsAt (at + 4 * size T) (λ m. K m × By m (at + 4 * size T)) (λ b m. G b m × By m b) (λ b m. G b m × By m b) e to → (((to ≡ at + 4 * size T) × K e) ⊎ G to e) × By e to
         split e to h = ⊎_elim (λ x. (inl (x.0, x.1.0), subst (By e) (sym x.0) x.1.1)) (λ x. let y = ⊎_elim (λ u. u) (λ u. u) x in (inr y.0, y.1)) h
-
--- a routine, which ends by jumps alone, comes to its goal
-pub run_routine : (kept : ℕ → Bool) (bus : ℕ → Bus) (few : (n : ℕ) → (bus n).value < 2 ^ 32) (first : Memory) (ls : List (ℕ × Tree)) → ArePlaced kept first ls → (T : Tree) (at : ℕ) (G : ℕ → Goal) (c : ℕ) (s : Run) → IsPlaced kept first at T → Keeps kept first s
-    → Meets kept (calls kept ls) T at (λ _. ⊥) G s → Reaches kept bus first (executing s at c) c s (λ e to. G to e)
-run_routine kept bus few first ls pl T at G c s p ks h =
-    let q = run_exactly kept any (λ i c e. refl) ls T at (λ _. ⊥) G s bus few first pl c p ks h in
-    record { count = q.count; after = q.after; to = q.to; run = q.run; exact = q.exact; bound = q.bound; keeps = q.keeps; holds = ⊎_elim (λ x. absurd x.1) (λ x. x) q.holds.0 }

@@ -11,7 +11,7 @@ use Rattle.psx_flow.specs.declared.node.Test.{Test}
 use Rattle.psx_flow.specs.Tree.{Tree, size}
 use Rattle.psx_flow.specs.Lowered.{opposite}
 use Rattle.psx_flow.specs.Run.{Run}
-use Rattle.psx_flow.specs.Meets.{Holds, passing, branching, linking}
+use Rattle.psx_flow.specs.Meets.{TestHolds, passing, branching, linking}
 use Rattle.psx_flow.specs.Runs.{Ending, Falls, Jumps, JumpsTo, IsJump, Then, TurnsOf}
 use Rattle.psx_flow.specs.Plain.{Execution, went, onward, seen_at, on, steps, executing}
 use Rattle.psx_flow.specs.Reaches.{Keeps}
@@ -187,8 +187,8 @@ module _ (kept : ℕ → Bool) (first : Memory) where
   pub turns_come : (n c : ℕ) (t : Test) (a : Tree) (at to end : ℕ) (s : Run) (e : Ending) (A B : Run → Ending → Type 0)
       → ((d : ℕ) (m : Run) (y : Ending) → Keeps kept first m → A m y → Comes (executing m (at + 8) d) d m.steps (at + (8 + 4 * size a)) y)
       → ((d : ℕ) (m : Run) (y : Ending) → Keeps kept first m → B m y → Comes (executing m to d) d m.steps end y)
-      → ((d : ℕ) (m : Run) → Keeps kept first m → Holds t m.regs → Always 2 (executing m at d) (executing m (at + 8) (d + 2)))
-      → ((d : ℕ) (m : Run) → Keeps kept first m → Holds (opposite t) m.regs → Always 2 (executing m at d) (executing m to (d + 2)))
+      → ((d : ℕ) (m : Run) → Keeps kept first m → TestHolds t m.regs → Always 2 (executing m at d) (executing m (at + 8) (d + 2)))
+      → ((d : ℕ) (m : Run) → Keeps kept first m → TestHolds (opposite t) m.regs → Always 2 (executing m at d) (executing m to (d + 2)))
       → ((d : ℕ) (m : Run) → Keeps kept first m → Always 2 (executing m (at + (8 + 4 * size a)) d) (executing m at (d + 2)))
       → Keeps kept first s → TurnsOf n t A B s e → Comes (executing s at c) c s.steps end e
   turns_come zero c t a at to end s e A B body rest into past back ks h = absurd h

@@ -20,7 +20,7 @@ use Rattle.psx_flow.specs.Well.{enters_or_leaves, is_op, test_fits}
 use Rattle.psx_flow.specs.Spaced.{registers_of, is_among, touches}
 use Rattle.psx_flow.specs.Lowered.{opposite, nop, always, branch, distance, code, in_reach}
 use Rattle.psx_flow.specs.Run.{Run, Access, accessed, state_at, done}
-use Rattle.psx_flow.specs.Meets.{Holds}
+use Rattle.psx_flow.specs.Meets.{TestHolds}
 use Rattle.psx_flow.specs.Plain.{Execution, plain_step, on, steps, executing}
 use Rattle.psx_flow.specs.Reaches.{Keeps}
 use Rattle.psx_flow.proofs.Delay.{delayed, delayed_trap, delayed_access, neither}
@@ -202,7 +202,7 @@ module _ (kept : ℕ → Bool) (bus : ℕ → Bus) (first : Memory) where
   word_field : (x : ℕ) → x % 2 ^ 16 < 2 ^ 16
   word_field x = omega arith
 
-  pub taken : (c : ℕ) (t : Test) (s : Run) (at to : ℕ) → Keeps kept first s → LiesAs kept first at (branch t at to) → LiesAs kept first (at + 4) nop → test_fits t ≡ true → in_reach at to ≡ true → to % 4 ≡ 0 → Holds t s.regs
+  pub taken : (c : ℕ) (t : Test) (s : Run) (at to : ℕ) → Keeps kept first s → LiesAs kept first at (branch t at to) → LiesAs kept first (at + 4) nop → test_fits t ≡ true → in_reach at to ≡ true → to % 4 ≡ 0 → TestHolds t s.regs
       → Moves 2 (executing s at c) (executing s to (c + 2))
   taken c t s at to k l n fit near even y =
       let wrap = no_wrap at l.mapped in
@@ -210,7 +210,7 @@ module _ (kept : ℕ → Bool) (bus : ℕ → Bus) (first : Memory) where
       two c (branch t at to) s s at to k k l n (branch_fits t (distance at to) fit (word_field _)) (branch_stays t (distance at to)) (branch_trap t (distance at to) (state_at s at))
       (branch_after t (distance at to) s at (bus c) true (passes t s.regs y) ∙ ap (in_slot s ((at + 4) % 2 ^ 32)) dest) (branch_seen t (distance at to) (state_at s at) (bus c) s.seen)
 
-  pub passed_by : (c : ℕ) (t : Test) (s : Run) (at to : ℕ) → Keeps kept first s → LiesAs kept first at (branch (opposite t) at to) → LiesAs kept first (at + 4) nop → test_fits t ≡ true → Holds t s.regs
+  pub passed_by : (c : ℕ) (t : Test) (s : Run) (at to : ℕ) → Keeps kept first s → LiesAs kept first at (branch (opposite t) at to) → LiesAs kept first (at + 4) nop → test_fits t ≡ true → TestHolds t s.regs
       → Moves 2 (executing s at c) (executing s (at + 8) (c + 2))
   passed_by c t s at to k l n fit y =
       let wrap = no_wrap at l.mapped in

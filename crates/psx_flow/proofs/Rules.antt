@@ -9,13 +9,13 @@ use Rattle.psx_flow.specs.Tree.{Tree, Stop, Do, When, Choose, Loop, Visit, Go, G
 use Rattle.psx_flow.specs.Lowered.{opposite}
 use Rattle.psx_flow.specs.Run.{Run, done}
 use Rattle.psx_flow.proofs.Step.{both}
-use Rattle.psx_flow.specs.Meets.{Holds, branching, Goal, Calls, Turns, MeetsEach, Meets, calls}
+use Rattle.psx_flow.specs.Meets.{TestHolds, branching, Goal, Calls, Turns, MeetsEach, Meets, calls}
 
 not_above : (v : ℕ) → ((v ≡ 0) ⊎ (2 ^ 31 ≤ v)) ⊎ ((0 < v) × (v < 2 ^ 31))
 not_above v = ⊎_elim (λ lt. ⊎_elim (λ e. inl (inl e)) (λ ne. inr (omega arith, lt)) (cases_eq v 0)) (λ ge. inl (inr ge)) (cases_lt v (2 ^ 31))
 
 -- either a test holds, or its opposite
-pub decided : (t : Test) (c : Registers) → Holds t c ⊎ Holds (opposite t) c
+pub decided : (t : Test) (c : Registers) → TestHolds t c ⊎ TestHolds (opposite t) c
 decided (Same a b) c = cases_eq (register c a.0) (register c b.0)
 decided (Differ a b) c = ⊎_elim inr inl (cases_eq (register c a.0) (register c b.0))
 decided (NotAbove a) c = not_above (register c a.0)

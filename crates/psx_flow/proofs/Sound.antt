@@ -20,7 +20,7 @@ use Rattle.psx_flow.specs.Tree.{Tree, Stop, Do, When, Choose, Loop, Visit, Go, G
 use Rattle.psx_flow.specs.Lowered.{opposite}
 use Rattle.psx_flow.specs.Run.{Access, Load, Store, PortRead, word_load, word_store, Run, state_at, done, spares_byte, spares_word, spares}
 use Rattle.psx_flow.specs.Kernel.{kernel_words}
-use Rattle.psx_flow.specs.Meets.{Holds, branching, Goal, Calls, Meets}
+use Rattle.psx_flow.specs.Meets.{TestHolds, branching, Goal, Calls, Meets}
 use Rattle.psx_flow.proofs.Registers.{write_then, read_is, write_is}
 use Rattle.psx_flow.proofs.Rules.{Fair, meets_mono}
 use Rattle.psx_flow.proofs.Log.{Sort, Nowhere, Code, Kernel, User, Port, word_sort, byte_sort, Entry, applied, Sorted, kernel_word_is, kernel_byte_is, user_word_is, user_byte_is, code_low, kernel_low, port_in, port_true, low_port}
@@ -194,7 +194,7 @@ module _ (m : Memory) (k : Next) (K : Goal) (p : Count) (f : (c : Registers) (z 
       (refl, r.0, λ bus lt. r.1)
   act_is _ at c z w q ok h = absurd h
 
-pub asks_is : (t : Test) (c : Registers) (k : Type 0 → Type 0) → Asks t c k → k (Holds t c)
+pub asks_is : (t : Test) (c : Registers) (k : Type 0 → Type 0) → Asks t c k → k (TestHolds t c)
 asks_is (Same a b) c k h = read_is c b.0 _ (read_is c a.0 _ h)
 asks_is (Differ a b) c k h = read_is c b.0 _ (read_is c a.0 _ h)
 asks_is (NotAbove a) c k h = read_is c a.0 _ h

@@ -47,13 +47,13 @@ pub record IsGiven (kept : ℕ → Bool) (ls : List (ℕ × Tree)) (T : Tree) (a
   pub masked : s.cop0.sr % 2 ≡ 0
 
 -- whatever the bus brings, the listing's run from s ends, traps nowhere, stores over no word that is kept, turns no interrupts on, and its calls come back
-abbrev pub Ends : (ℕ → Bool) → List (ℕ × Tree) → Tree → ℕ → Run → Type 0
-Ends kept ls T at s = Meets kept (calls kept ls) T at (λ _. Unit {0}) (λ _ _. Unit {0}) s
+abbrev pub RunsEnd : (ℕ → Bool) → List (ℕ × Tree) → Tree → ℕ → Run → Type 0
+RunsEnd kept ls T at s = Meets kept (calls kept ls) T at (λ _. Unit {0}) (λ _ _. Unit {0}) s
 
 -- Then its words come to where a run comes to, in exactly the steps of that run, whatever the bus brings.
 abbrev pub WordsRun : Type 0
 WordsRun =
-    (kept : ℕ → Bool) (ls : List (ℕ × Tree)) (T : Tree) (at : ℕ) (s : Run) → IsGiven kept ls T at s → Ends kept ls T at s
+    (kept : ℕ → Bool) (ls : List (ℕ × Tree)) (T : Tree) (at : ℕ) (s : Run) → IsGiven kept ls T at s → RunsEnd kept ls T at s
     → (bus : ℕ → Bus) → ((n : ℕ) → (bus n).value < 2 ^ 32) → (c : ℕ) → Reaches kept bus s.bytes (executing s at c) c s (λ e to. RunsTo any (called any ls) T at s e to)
 
 -- the words come from s at `at` to e at `to`, for some answers of the bus, in exactly the steps that the run makes, which are at most four for each node

@@ -10,13 +10,13 @@ use Rattle.psx_flow.specs.Lowered.{opposite}
 use Rattle.psx_flow.specs.Run.{Run, state_at, done, spares}
 
 -- a test: of two registers, or of one with 0 as a signed number
-abbrev pub Holds : Test → Registers → Type 0
-Holds (Same a b) c = register c a.0 ≡ register c b.0
-Holds (Differ a b) c = register c a.0 ≢ register c b.0
-Holds (NotAbove a) c = (register c a.0 ≡ 0) ⊎ (2 ^ 31 ≤ register c a.0)
-Holds (Above a) c = (0 < register c a.0) × (register c a.0 < 2 ^ 31)
-Holds (Negative a) c = 2 ^ 31 ≤ register c a.0
-Holds (NotNegative a) c = register c a.0 < 2 ^ 31
+abbrev pub TestHolds : Test → Registers → Type 0
+TestHolds (Same a b) c = register c a.0 ≡ register c b.0
+TestHolds (Differ a b) c = register c a.0 ≢ register c b.0
+TestHolds (NotAbove a) c = (register c a.0 ≡ 0) ⊎ (2 ^ 31 ≤ register c a.0)
+TestHolds (Above a) c = (0 < register c a.0) × (register c a.0 < 2 ^ 31)
+TestHolds (Negative a) c = 2 ^ 31 ≤ register c a.0
+TestHolds (NotNegative a) c = register c a.0 < 2 ^ 31
 
 -- One more node is passed, which is a branch or a jump: two steps, with its slot.
 abbrev pub passing : Run → Run
@@ -41,7 +41,7 @@ Calls = ℕ → ℕ → Goal → Goal
 -- at most n turns of a loop, each begun with its test and ended with the branch back, and then what follows it
 abbrev pub Turns : ℕ → Test → (Goal → Goal) → Goal → Goal
 Turns zero t body K s = ⊥
-Turns (suc n) t body K s = (Holds (opposite t) s.regs → K (passing s)) × (Holds t s.regs → body (λ m. Turns n t body K (branching m)) (passing s))
+Turns (suc n) t body K s = (TestHolds (opposite t) s.regs → K (passing s)) × (TestHolds t s.regs → body (λ m. Turns n t body K (branching m)) (passing s))
 
 module _ (kept : ℕ → Bool) where
   -- The tree that stands at `at`, run from s, whatever the bus brings: no instruction traps, or stores over a word that is kept, or turns interrupts on;
@@ -52,11 +52,11 @@ module _ (kept : ℕ → Bool) where
       (trap_of i (state_at s at).context ≡ None) × (spares kept i (state_at s at).context ≡ true)
       × ((bus : Bus) → bus.value < 2 ^ 32 → MeetsEach C r (at + 4) K J G (done i s at bus))
   MeetsEach C (When t a r) at K J G s =
-      (Holds t s.regs → MeetsEach C a (at + 8) (MeetsEach C r (at + (8 + 4 * size a)) K J G) J G (passing s))
-      × (Holds (opposite t) s.regs → MeetsEach C r (at + (8 + 4 * size a)) K J G (passing s))
+      (TestHolds t s.regs → MeetsEach C a (at + 8) (MeetsEach C r (at + (8 + 4 * size a)) K J G) J G (passing s))
+      × (TestHolds (opposite t) s.regs → MeetsEach C r (at + (8 + 4 * size a)) K J G (passing s))
   MeetsEach C (Choose t a b r) at K J G s =
-      (Holds t s.regs → MeetsEach C a (at + 8) (λ m. MeetsEach C r (at + (16 + 4 * size a + 4 * size b)) K J G (branching m)) J G (passing s))
-      × (Holds (opposite t) s.regs → MeetsEach C b (at + (16 + 4 * size a)) (MeetsEach C r (at + (16 + 4 * size a + 4 * size b)) K J G) J G (passing s))
+      (TestHolds t s.regs → MeetsEach C a (at + 8) (λ m. MeetsEach C r (at + (16 + 4 * size a + 4 * size b)) K J G (branching m)) J G (passing s))
+      × (TestHolds (opposite t) s.regs → MeetsEach C b (at + (16 + 4 * size a)) (MeetsEach C r (at + (16 + 4 * size a + 4 * size b)) K J G) J G (passing s))
   MeetsEach C (Loop t a r) at K J G s =
       (n : ℕ) × Turns n t (λ L. MeetsEach C a (at + 8) L J G) (MeetsEach C r (at + (16 + 4 * size a)) K J G) s
   MeetsEach C (Visit a r) at K J G s = C a (at + 8) (MeetsEach C r (at + 8) K J G) (linking s (at + 8))

@@ -9,7 +9,7 @@ use Rattle.psx_flow.specs.declared.node.Test.{Test}
 use Rattle.psx_flow.specs.Tree.{Tree, Stop, Do, When, Choose, Loop, Visit, Go, GoTo, size}
 use Rattle.psx_flow.specs.Lowered.{opposite}
 use Rattle.psx_flow.specs.Run.{Run, state_at, done}
-use Rattle.psx_flow.specs.Meets.{Holds, passing, branching, linking}
+use Rattle.psx_flow.specs.Meets.{TestHolds, passing, branching, linking}
 
 -- behind the last word, or by a Jump or a JumpTo to an address
 pub data Ending : Type 0 where
@@ -29,7 +29,7 @@ Then A B s e = ((m : Run) × A s (Falls m) × B m e) ⊎ (IsJump e × A s e)
 -- n turns at most, and what follows the loop
 abbrev pub TurnsOf : ℕ → Test → (Run → Ending → Type 0) → (Run → Ending → Type 0) → Run → Ending → Type 0
 TurnsOf zero t A B s e = ⊥
-TurnsOf (suc n) t A B s e = (Holds (opposite t) s.regs × B (passing s) e) ⊎ (Holds t s.regs × Then A (λ m. TurnsOf n t A B (branching m)) (passing s) e)
+TurnsOf (suc n) t A B s e = (TestHolds (opposite t) s.regs × B (passing s) e) ⊎ (TestHolds t s.regs × Then A (λ m. TurnsOf n t A B (branching m)) (passing s) e)
 
 -- what calls come to: the callee's address, that behind the call, the states before and behind
 abbrev pub Called : Type 1
@@ -44,10 +44,10 @@ module _ (may : Ins → Context → Bool) where
   abbrev pub Runs : Called → Tree → ℕ → Run → Ending → Type 0
   Runs R Stop at s e = e ≡ Falls s
   Runs R (Do i r) at s e = (trap_of i (state_at s at).context ≡ None) × (may i (state_at s at).context ≡ true) × ((bus : Bus) × (bus.value < 2 ^ 32) × Runs R r (at + 4) (done i s at bus) e)
-  Runs R (When t a r) at s e = (Holds t s.regs × Then (Runs R a (at + 8)) (Runs R r (at + (8 + 4 * size a))) (passing s) e) ⊎ (Holds (opposite t) s.regs × Runs R r (at + (8 + 4 * size a)) (passing s) e)
+  Runs R (When t a r) at s e = (TestHolds t s.regs × Then (Runs R a (at + 8)) (Runs R r (at + (8 + 4 * size a))) (passing s) e) ⊎ (TestHolds (opposite t) s.regs × Runs R r (at + (8 + 4 * size a)) (passing s) e)
   Runs R (Choose t a b r) at s e =
-      (Holds t s.regs × Then (Runs R a (at + 8)) (λ m. Runs R r (at + (16 + 4 * size a + 4 * size b)) (branching m)) (passing s) e)
-      ⊎ (Holds (opposite t) s.regs × Then (Runs R b (at + (16 + 4 * size a))) (Runs R r (at + (16 + 4 * size a + 4 * size b))) (passing s) e)
+      (TestHolds t s.regs × Then (Runs R a (at + 8)) (λ m. Runs R r (at + (16 + 4 * size a + 4 * size b)) (branching m)) (passing s) e)
+      ⊎ (TestHolds (opposite t) s.regs × Then (Runs R b (at + (16 + 4 * size a))) (Runs R r (at + (16 + 4 * size a + 4 * size b))) (passing s) e)
   Runs R (Loop t a r) at s e = (n : ℕ) × TurnsOf n t (Runs R a (at + 8)) (Runs R r (at + (16 + 4 * size a))) s e
   Runs R (Visit a r) at s e = (m : Run) × R a (at + 8) (linking s (at + 8)) m × Runs R r (at + 8) m e
   Runs R (Go a r) at s e = e ≡ Jumps a (passing s)
