@@ -131,8 +131,7 @@ module _ (a b n m flag second k x y : ℕ) (p : Pair a b n m flag second) (c : C
 
   pub other_bad : x ≡ (a + m) % 2 ^ 32 → (flag ≡ 0 → ⊥) → (second ≡ 0 → ⊥) → (user x ≡ true) × Bad k y
   other_bad e ne nz =
-      let bad = p.bad_other ne nz in
-      (
+      let bad = p.bad_other ne nz in (
         ap user (at_x ∙ ap (λ i. a + i) (at_end e)) ∙ bad.0,
         record { some = omega (arith, at_end e, p.some ne, c.most); user = ap user (at_y ∙ ap (λ i. b + i) (at_end e)) ∙ bad.1 },
       )
