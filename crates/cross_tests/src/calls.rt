@@ -200,7 +200,10 @@ start:
         nop
 ",
     );
-    assert!(rt; host.sent(Out::Trace).ends_with(b" BadPointer 1F800400 80010030\n"));
+    assert!(rt;
+        host.sent(Out::Trace)
+            .ends_with(b" BadPointer 1F800400 80010030\n")
+    );
     assert!(rt; &host.sent(Out::Ram)[0x1F_FFFE..0x20_0000] == b"AB".as_slice());
 }
 
@@ -246,7 +249,10 @@ start:
         nop
 ",
     );
-    assert!(rt; host.sent(Out::Trace).ends_with(b" BadPointer 80200000 80010020\n"));
+    assert!(rt;
+        host.sent(Out::Trace)
+            .ends_with(b" BadPointer 80200000 80010020\n")
+    );
     assert!(rt; &host.sent(Out::Ram)[0x1F_FFFD..0x20_0000] == b"\0AA".as_slice());
 }
 
@@ -374,9 +380,12 @@ start:
         nop
 ",
     );
-    let shown = b" 80010088 00000401 00001E61 00001A0A 00000101 1F800000 00000103 1F800000 00000105 00000006 00000107 00000108 0000002B 000000A0 \
+    let shown =
+        b" 80010088 00000401 00001E61 00001A0A 00000101 1F800000 00000103 1F800000 00000105 00000006 00000107 00000108 0000002B 000000A0 \
 0000010B 0000010C 0000010D 0000010E 0000010F 00000110 00000111 00000112 00000113 00000114 00000115 00000116 00000117 00000118 00000119 \
 80010088 00000000 0000011C 0000011D 0000011E 80010088\n";
     assert!(rt; stands_in(host.sent(Out::Trace), shown));
-    assert!(rt; &host.sent(Out::Ram)[0x20_0000..0x20_0007] == b"\x05\x05\x05\x05\x05\x05\0".as_slice());
+    assert!(rt;
+        &host.sent(Out::Ram)[0x20_0000..0x20_0007] == b"\x05\x05\x05\x05\x05\x05\0".as_slice()
+    );
 }

@@ -141,10 +141,10 @@ module _ (rom : List ℕ) (m : Memory) (words : HoldsEntry m) (code : HoldsRom m
         (λ to f p. split (nat_eq to loop) _ _ _ (λ v x. x.0) (λ v x. low_ends (after stay p.told) few to f x) p.ends)
         (λ to f kf p. split (nat_eq to loop) _ _ _
         (λ v x.
-            let r = repeats_run n (after stay p.told) (after_ends _ _ stay p.told valid) f kf x.2 (given HALT_A a f.seen) (given HALT_B b f.seen) (given HALT_C c f.seen) in
-            let paid = x.1 in
-            by_rest a b c stay valid rest some p.told to f kf p.ports p.follows (73 + most) (omega (arith, all, paid))
-            (subst (λ j. Runs rom (after stay p.told) (73 + most) (at_core rom (given HALT_A a f.seen) (given HALT_B b f.seen) (given HALT_C c f.seen) (kernel_core (state_at f j)))) (sym (eqb-true to loop v)) r))
+        let r = repeats_run n (after stay p.told) (after_ends _ _ stay p.told valid) f kf x.2 (given HALT_A a f.seen) (given HALT_B b f.seen) (given HALT_C c f.seen) in
+        let paid = x.1 in
+        by_rest a b c stay valid rest some p.told to f kf p.ports p.follows (73 + most) (omega (arith, all, paid))
+        (subst (λ j. Runs rom (after stay p.told) (73 + most) (at_core rom (given HALT_A a f.seen) (given HALT_B b f.seen) (given HALT_C c f.seen) (kernel_core (state_at f j)))) (sym (eqb-true to loop v)) r))
         (λ v x. by_door a b c stay valid rest some p.told to f kf p.ports p.follows few x) p.ends)
         (begun e.regs e.cop0 e.bytes) (record { bytes = ke.bytes; masked = ke.masked }) refl refl h.2)
 
@@ -156,8 +156,8 @@ module _ (rom : List ℕ) (m : Memory) (words : HoldsEntry m) (code : HoldsRom m
       (λ to f p. split (nat_eq to s.loop) _ _ _ (λ v x. x.0) (λ v x. low_ends (after S p.told) most to f x) p.ends)
       (λ to f kf p. split (nat_eq to s.loop) _ _ _
       (λ v x.
-          let r = repeats_run s.own s.own_placed most s.loop s.turns s.turns_placed x.1.0 (after S p.told) (after_ends _ _ S p.told valid) f kf x.1.1 (given HALT_A a f.seen) (given HALT_B b f.seen) (given HALT_C c f.seen) in
-          by_rest a b c S valid R (omega arith) p.told to f kf p.ports p.follows R (omega arith)
-          (subst (λ j. Runs rom (after S p.told) R (at_core rom (given HALT_A a f.seen) (given HALT_B b f.seen) (given HALT_C c f.seen) (kernel_core (state_at f j)))) (sym (eqb-true to s.loop v)) r))
+      let r = repeats_run s.own s.own_placed most s.loop s.turns s.turns_placed x.1.0 (after S p.told) (after_ends _ _ S p.told valid) f kf x.1.1 (given HALT_A a f.seen) (given HALT_B b f.seen) (given HALT_C c f.seen) in
+      by_rest a b c S valid R (omega arith) p.told to f kf p.ports p.follows R (omega arith)
+      (subst (λ j. Runs rom (after S p.told) R (at_core rom (given HALT_A a f.seen) (given HALT_B b f.seen) (given HALT_C c f.seen) (kernel_core (state_at f j)))) (sym (eqb-true to s.loop v)) r))
       (λ v x. by_door a b c S valid R (omega arith) p.told to f kf p.ports p.follows most x) p.ends)
       (begun (called_with (registers_of t) regs) z m) (record { bytes = λ x e. refl; masked = off }) refl refl (s.serves t regs z m h)
