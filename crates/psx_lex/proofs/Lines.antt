@@ -8,7 +8,7 @@ use Rattle.psx_lex.specs.declared.token.Token.{Token}
 use Rattle.psx_lex.specs.declared.token.LexError.{LexError}
 use Rattle.psx_lex.specs.declared.token.LexError.TheVariants.{BadToken, Memory}
 use Rattle.psx_lex.specs.Lexeme.{BeginsToken}
-use Rattle.psx_lex.specs.Line.{is_blank, IsBlank, HasTokens, Ends, IsBadAt, IsTokensOf}
+use Rattle.psx_lex.specs.Line.{is_blank, IsBlank, HasTokens, HasNoMore, IsBadAt, IsTokensOf}
 use Rattle.psx_lex.proofs.Starts.{starts, starts_of, some_bytes}
 use Rattle.psx_lex.proofs.OneKind.{same_longest}
 
@@ -91,7 +91,7 @@ token_within line at k len token = omega (arith, token.lexeme.within, some_bytes
 
 -- tokens go no further
 abbrev Stops : List ℕ → ℕ → Type 0
-Stops line at = Ends line at ⊎ IsBadAt line at
+Stops line at = HasNoMore line at ⊎ IsBadAt line at
 
 stop_blank : (line : List ℕ) (at : ℕ) → Stops line at → at < length line → is_blank (slice_index line at) ≡ true → ⊥
 stop_blank line at stop below blank =
@@ -130,8 +130,8 @@ same_tokens line from (t ∷ ts) (u ∷ us) m n a b stop other =
     let rest = same_tokens line u.to ts us m n (subst (λ (i : ℕ). HasTokens line i ts m) end a.3) b.3 stop other in
     ((λ i. record { kind = token.0 i; from = place i; to = end i } ∷ rest.0 i), rest.1)
 
-not_both : (line : List ℕ) (m n : ℕ) → m ≡ n → Ends line m → IsBadAt line n → ⊥
-not_both line m n same ends bad = bad.comment (subst (Ends line) same ends bad.within)
+not_both : (line : List ℕ) (m n : ℕ) → m ≡ n → HasNoMore line m → IsBadAt line n → ⊥
+not_both line m n same ends bad = bad.comment (subst (HasNoMore line) same ends bad.within)
 
 pub one_answer : (line : List ℕ) (a b : Result (List Token) LexError) → IsTokensOf line a → IsTokensOf line b → a ≡ b
 one_answer line (Ok ts) (Ok us) a b = ap Ok (same_tokens line 0 ts us a.0 b.0 a.1 b.1 (inl a.2) (inl b.2)).0

@@ -21,8 +21,8 @@ HasTokens line from [] to = IsBlank line from to
 HasTokens line from (t ∷ ts) to = IsBlank line from t.from × (t.from ≤ t.to) × BeginsToken (drop t.from line) t.kind (t.to - t.from) × HasTokens line t.to ts to
 
 -- at a place there is nothing more, or a comment
-abbrev pub Ends : List ℕ → ℕ → Type 0
-Ends line at = (at < length line) → slice_index line at ≡ 35
+abbrev pub HasNoMore : List ℕ → ℕ → Type 0
+HasNoMore line at = (at < length line) → slice_index line at ≡ 35
 
 -- at a place there is a byte that begins no token, no comment and isn't blank
 pub record IsBadAt (line : List ℕ) (at : ℕ) : Type 0 where
@@ -33,7 +33,7 @@ pub record IsBadAt (line : List ℕ) (at : ℕ) : Type 0 where
 
 -- the tokens of a line, or its first byte that begins none
 abbrev pub IsTokensOf : List ℕ → Result (List Token) LexError → Type 0
-IsTokensOf line (Ok tokens) = (to : ℕ) × HasTokens line 0 tokens to × Ends line to
+IsTokensOf line (Ok tokens) = (to : ℕ) × HasTokens line 0 tokens to × HasNoMore line to
 IsTokensOf line (Err (BadToken at)) = (before : List Token) × HasTokens line 0 before at × IsBadAt line at
 IsTokensOf line (Err Memory) = ⊥
 

@@ -6,12 +6,12 @@ use Rattle.psx_sched.specs.declared.fault.SchedError.{SchedError}
 use Rattle.psx_sched.specs.declared.fault.SchedError.TheVariants.{TooLong, BadLine, OutOfOrder, TooMany, Memory}
 use Rattle.psx_sched.specs.Accepted.{longest, IsLinesThen, IsLineFault, IsFirstFault, IsScheduleOf}
 use Rattle.psx_sched.proofs.EntryReading.{same_entry, line_some}
-use Rattle.psx_sched.proofs.SameEntries.{Ends, same_split}
+use Rattle.psx_sched.proofs.SameEntries.{NoneFollows, same_split}
 
-ends_at_end : (entries : List Entry) → Ends 0 0 entries []
+ends_at_end : (entries : List Entry) → NoneFollows 0 0 entries []
 ends_at_end entries next told begins room order = line_some next begins.0 told (sym begins.1)
 
-ends_at_fault : (before : List Entry) (rest : List ℕ) (fault : SchedError) → IsLineFault before rest fault → Ends 0 0 before rest
+ends_at_fault : (before : List Entry) (rest : List ℕ) (fault : SchedError) → IsLineFault before rest fault → NoneFollows 0 0 before rest
 ends_at_fault before rest TooMany wrong next told begins room order = absurd (omega arith)
 ends_at_fault before rest (BadLine number) wrong next told begins room order = wrong.2 next told begins
 ends_at_fault before rest (OutOfOrder number) wrong next told begins room order =
@@ -57,7 +57,7 @@ record Reached (text : List ℕ) (answer : Result (List Entry) SchedError) : Typ
   before : List Entry
   rest : List ℕ
   split : IsLinesThen text before rest
-  ends : Ends 0 0 before rest
+  ends : NoneFollows 0 0 before rest
   gives : Gives before rest answer
 
 reached_fault : (text : List ℕ) (fault : SchedError) → IsFirstFault text fault → Reached text (Err fault)

@@ -8,12 +8,12 @@ use Rattle.psx_sched.specs.Accepted.{IsByte, IsTold, BeginsWith}
 use Rattle.psx_sched.proofs.EntryReading.{same_entry}
 
 -- no further line of a schedule stands at the beginning of a rest
-abbrev pub Ends : ℕ → ℕ → List Entry → List ℕ → Type 0
-Ends used least entries rest = (next : Entry) → IsTold next → BeginsWith rest next → used + length entries < 65536 → last_count least entries ≤ next.count → ⊥
+abbrev pub NoneFollows : ℕ → ℕ → List Entry → List ℕ → Type 0
+NoneFollows used least entries rest = (next : Entry) → IsTold next → BeginsWith rest next → used + length entries < 65536 → last_count least entries ≤ next.count → ⊥
 
 -- where the lines end, the entries are those that any other such list has
 pub same_split : (used least : ℕ) (xs ys : List Entry) (r s : List ℕ) → All (λ e. IsByte e.what) xs → All (λ e. IsByte e.what) ys → IsOrdered least xs → IsOrdered least ys
-    → used + length xs ≤ 65536 → used + length ys ≤ 65536 → lines_of xs ++ r ≡ lines_of ys ++ s → Ends used least xs r → Ends used least ys s → (xs ≡ ys) × (r ≡ s)
+    → used + length xs ≤ 65536 → used + length ys ≤ 65536 → lines_of xs ++ r ≡ lines_of ys ++ s → NoneFollows used least xs r → NoneFollows used least ys s → (xs ≡ ys) × (r ≡ s)
 same_split used least [] [] r s bytes_x bytes_y order_x order_y few_x few_y e ends_x ends_y = (refl, e)
 same_split used least [] (y ∷ ys) r s bytes_x bytes_y order_x order_y few_x few_y e ends_x ends_y =
     let told : IsTold y = record { plausible = order_y.1; byte = bytes_y 0 y (omega arith) } in

@@ -13,12 +13,12 @@ use Rattle.psxk_run.specs.Printing.{printing}
 use Rattle.psxk_run.specs.Refusals.{line_of}
 use Rattle.psxk_run.specs.Refusals as refusals
 use Rattle.psxk_run.specs.Reports.{memory_line}
-use Rattle.psxk_run.specs.Sent.{Grew, OnlyReports, Says, SentAlone}
-use Rattle.psxk_run.specs.Top.{Ran, Printed, IsDone, IsRefused, IsUnread, IsStatus, IsFaulty, IsQuiet, run_of, RunsProgram, MakesText, Assembled}
+use Rattle.psxk_run.specs.Sent.{Grew, Says, SentAlone}
+use Rattle.psxk_run.specs.Top.{Ran, Printed, IsDone, IsRefused, IsUnread, IsStatus, IsFaulty, run_of, RunsProgram, MakesText, Assembled}
 use Rattle.psxk_run.specs.InPart.{ReportsFront, DoneInPart, SentInPart, InWork, InFault, InRead, InMemory}
-use Rattle.psxk_run.specs.Ends.{Ends, ByWork, ByRefusal, EndsWork, EndsRun, EndsPrinting, EndsRefused, Moment, moment, EndsAssembling}
+use Rattle.psxk_run.specs.Ends.{CommandEnds, ByWork, ByRefusal, EndsWork, EndsRun, EndsPrinting, EndsRefused, Moment, moment, EndsAssembling}
 use Rattle.psxk_run.proofs.SameAnswer.{answers-inputs, answers-refusal, answers-program, answers-no_program, answers-text, answers-no_text}
-use Rattle.psxk_run.proofs.Statuses.{Carried, carried, carried-status, text-status, carried-wrote, carried-memory, carried-five, carried-quiet, listed-run, refusal-high, not-done, not-faulty, five-faulty}
+use Rattle.psxk_run.proofs.Statuses.{Carried, carried, carried-status, text-status, carried-wrote, carried-memory, carried-five, listed-run, refusal-high, not-done, not-faulty, five-faulty}
 use Rattle.psxk_run.specs.Assembling.{assembling}
 
 -- why a command was refused, by the refusal
@@ -54,7 +54,7 @@ module _ {H : Type 0} (holds : H → List ℕ → Option (List ℕ)) (sent : H �
   after = moment holds sent loads sends new
 
   abbrev Ended : Type 0
-  Ended = Ends before after c result
+  Ended = CommandEnds before after c result
 
   abbrev Refused : Type 0
   Refused = EndsRefused before after c result
@@ -121,10 +121,6 @@ module _ {H : Type 0} (holds : H → List ℕ → Option (List ℕ)) (sent : H �
   is-unsent (ByWork w) e = carried-wrote (sent old) (sent new) (sends old) (sends new) result (work w) e
   is-unsent (ByRefusal r) e = wrote-by r.refusal r.says e
 
-  pub is-quiet : Ended → IsQuiet result → OnlyReports (sent old) (sent new)
-  is-quiet (ByWork w) q = carried-quiet (sent old) (sent new) (sends old) (sends new) result (work w) q
-  is-quiet (ByRefusal r) q = r.only
-
   memory-by : (refusal : Refusal) → Said (refusals.status_of refusal) (line_of refusal) → result ≡ 7 → Grew (sent old Report) (sent new Report) memory_line
   memory-by Memory (inl one) e = one.1
   memory-by (Program fault) (inl one) e = absurd (omega (arith, one.0, e))
@@ -181,7 +177,7 @@ module _ {H : Type 0} (holds : H → List ℕ → Option (List ℕ)) (sent : H �
   done-work (ToPrint name) w d = done-print name w d
   done-work (ToAssemble name) w d = done-assemble name w d
 
-  pub is-done : (c : Command) → Ends start last c result → (result ≡ 0) ⊎ (result ≡ 1) → IsDone holds sent old new c result
+  pub is-done : (c : Command) → CommandEnds start last c result → (result ≡ 0) ⊎ (result ≡ 1) → IsDone holds sent old new c result
   is-done c (ByWork w) d = done-work c w d
   is-done c (ByRefusal r) d = not-done result (let high = (refusal-high r.refusal result (said holds sent loads sends old new c result r)).0 in omega (arith, high)) d
 
@@ -204,7 +200,7 @@ module _ {H : Type 0} (holds : H → List ℕ → Option (List ℕ)) (sent : H �
   refusal-decides (ToPrint name) refusal cause e = answers-no_program (holds old) (loads old) (loads new) name result refusal cause e
   refusal-decides (ToAssemble name) refusal cause e = answers-no_text (holds old) (loads old) (loads new) name result refusal cause e
 
-  pub decides : (c : Command) → Ends start last c result → Decides (holds old) c result
+  pub decides : (c : Command) → CommandEnds start last c result → Decides (holds old) c result
   decides c (ByWork w) = work-decides c w
   decides c (ByRefusal r) = refusal-decides c r.refusal r.cause (said holds sent loads sends old new c result r)
 
@@ -214,6 +210,6 @@ module _ {H : Type 0} (holds : H → List ℕ → Option (List ℕ)) (sent : H �
   part-work (ToPrint name) w = record { exe = w.exe; given = w.given; text = w.text.front }
   part-work (ToAssemble name) w = record { placed = w.placed; given = w.given; text = w.text.front }
 
-  pub in-part : (c : Command) → Ends start last c result → SentInPart holds sent old new c
+  pub in-part : (c : Command) → CommandEnds start last c result → SentInPart holds sent old new c
   in-part c (ByWork w) = InWork (part-work c w)
   in-part c (ByRefusal r) = part-by holds sent loads sends old new c result r.refusal (because holds sent loads sends old new c result r) (record { only = r.only; report = r.front })

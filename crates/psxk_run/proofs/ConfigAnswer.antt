@@ -89,8 +89,8 @@ outside_is_wrong before (Threads n) outside right = let last = threads_last befo
 outside_is_wrong before (Events n) outside right = let last = events_last before n right in ⊎_elim (λ low. omega arith) (λ high. omega arith) outside
 
 -- no further line is right
-abbrev Ends : List Setting → List (List ℕ) → Type 0
-Ends settings rest = (line : List ℕ) (after : List (List ℕ)) (s : Setting) → rest ≡ line ∷ after → Says line s → AreRight (settings ++ s ∷ []) → ⊥
+abbrev GoesNoFurther : List Setting → List (List ℕ) → Type 0
+GoesNoFurther settings rest = (line : List ℕ) (after : List (List ℕ)) (s : Setting) → rest ≡ line ∷ after → Says line s → AreRight (settings ++ s ∷ []) → ⊥
 
 record Same (xs ys : List (List ℕ)) (ss ts : List Setting) (r q : List (List ℕ)) : Type 0 where
   lines : xs ≡ ys
@@ -98,7 +98,7 @@ record Same (xs ys : List (List ℕ)) (ss ts : List Setting) (r q : List (List �
   rest : r ≡ q
 
 same_split : (given ss ts : List Setting) (xs ys r q : List (List ℕ)) → AllZip Says xs ss → AllZip Says ys ts → AreRight (given ++ ss) → AreRight (given ++ ts)
-    → xs ++ r ≡ ys ++ q → Ends (given ++ ss) r → Ends (given ++ ts) q → Same xs ys ss ts r q
+    → xs ++ r ≡ ys ++ q → GoesNoFurther (given ++ ss) r → GoesNoFurther (given ++ ts) q → Same xs ys ss ts r q
 same_split given [] [] [] [] r q said_x said_y right_x right_y e ends_x ends_y = record { lines = refl; settings = refl; rest = e }
 same_split given [] (t ∷ ts) [] (y ∷ ys) r q said_x said_y right_x right_y e ends_x ends_y =
     let regrouped = sym (append_assoc given (t ∷ []) ts) in
@@ -114,7 +114,7 @@ same_split given (s ∷ ss) (t ∷ ts) (x ∷ xs) (y ∷ ys) r q said_x said_y r
     let group_x = sym (append_assoc given (s ∷ []) ss) in
     let group_y : given ++ t ∷ ts ≡ (given ++ s ∷ []) ++ ts = ap (λ (u : Setting). given ++ u ∷ ts) (sym setting) ∙ sym (append_assoc given (s ∷ []) ts) in
     let more = same_split (given ++ s ∷ []) ss ts xs ys r q said_x.1 said_y.1 (subst AreRight group_x right_x) (subst AreRight group_y right_y) (ap (drop 1) e)
-    (subst (λ (l : List Setting). Ends l r) group_x ends_x) (subst (λ (l : List Setting). Ends l q) group_y ends_y) in
+    (subst (λ (l : List Setting). GoesNoFurther l r) group_x ends_x) (subst (λ (l : List Setting). GoesNoFurther l q) group_y ends_y) in
     record { lines = λ i. line i ∷ more.lines i; settings = λ i. setting i ∷ more.settings i; rest = more.rest }
 same_split given [] ts (x ∷ xs) ys r q said_x said_y right_x right_y e ends_x ends_y = absurd said_x
 same_split given (s ∷ ss) ts [] ys r q said_x said_y right_x right_y e ends_x ends_y = absurd said_x
@@ -167,7 +167,7 @@ record Reached (text : List ℕ) (answer : Result Sizes ConfError) : Type 0 wher
   split : config_lines text ≡ before ++ rest
   said : AllZip Says before settings
   right : AreRight settings
-  ends : Ends settings rest
+  ends : GoesNoFurther settings rest
   given : Given before settings rest answer
 
 reached_fault : (text : List ℕ) (fault : ConfError) → IsFirstFault text fault → Reached text (Err fault)

@@ -14,7 +14,7 @@ use Rattle.psx_board.specs.Run.{Outcome}
 use Rattle.psx_board.specs.Stands.{View}
 use Rattle.psxk_run.specs.Sent.{Grew, GrewFront, OnlyOn}
 use Rattle.psxk_run.specs.Texts.{trace_text, bytes_from, ram_text, Delivers, BreaksOff}
-use Rattle.psxk_run.specs.Pieces.{Tells, Breaks, BreaksOne, AtTty, AtTrace, Ends, EndsFront}
+use Rattle.psxk_run.specs.Pieces.{PutsBoth, Breaks, BreaksOne, AtTty, AtTrace, SendsLast, SendsLastFront}
 use Rattle.psxk_run.specs.Underway.{Stopped}
 use Rattle.psxk_run.proofs.Tellings.{trace_text-one}
 use Rattle.psxk_run.proofs.Streams.{grew-more, stream-grew, stream-front, front-none, front-all, front-more, front-sends, front-puts, front-puts_more, grew-puts}
@@ -37,8 +37,8 @@ front-to a b c text same g = subst (λ (x : Option (List ℕ)). GrewFront a x te
 front-from : (a b c : Option (List ℕ)) (text : List ℕ) → b ≡ a → GrewFront b c text → GrewFront a c text
 front-from a b c text same g = subst (λ (x : Option (List ℕ)). GrewFront x c text) same g
 
-pub ends-all : (before m n now : Sent) (tty trace tty' trace' : List ℕ) (item : Item) → Tells before m tty trace [] (item ∷ []) tty' trace'
-    → Grew (m Tty) (n Tty) tty' → OnlyOn Tty m n → Grew (n Trace) (now Trace) trace' → OnlyOn Trace n now → Ends before now tty trace (line item)
+pub ends-all : (before m n now : Sent) (tty trace tty' trace' : List ℕ) (item : Item) → PutsBoth before m tty trace [] (item ∷ []) tty' trace'
+    → Grew (m Tty) (n Tty) tty' → OnlyOn Tty m n → Grew (n Trace) (now Trace) trace' → OnlyOn Trace n now → SendsLast before now tty trace (line item)
 ends-all before m n now tty trace tty' trace' item t g only g' only' =
     record {
       tty = grew-to _ _ _ tty (only' Tty (λ e. cc)) (subst (λ (x : List ℕ). Grew (before Tty) (n Tty) x) (append-nil tty) (grew-puts _ _ _ tty [] tty' t.tty g));
@@ -49,7 +49,7 @@ ends-all before m n now tty trace tty' trace' item t g only g' only' =
     }
 
 -- the last line broke
-pub ends-broke_line : (before now : Sent) (tty trace text : List ℕ) → BreaksOne before now tty trace → EndsFront before now tty trace text
+pub ends-broke_line : (before now : Sent) (tty trace text : List ℕ) → BreaksOne before now tty trace → SendsLastFront before now tty trace text
 ends-broke_line before now tty trace text (AtTty b) = record {
   tty = front-sends _ _ tty b.front;
   trace = front-none _ _ _ (b.others Trace (λ e. cc));
@@ -64,7 +64,7 @@ ends-broke_line before now tty trace text (AtTrace b) = record {
 }
 
 -- the console's piece broke
-pub ends-broke_tty : (before m now : Sent) (tty trace tty' trace' : List ℕ) (item : Item) → Tells before m tty trace [] (item ∷ []) tty' trace' → Breaks m now Tty tty' → EndsFront before now tty trace (line item)
+pub ends-broke_tty : (before m now : Sent) (tty trace tty' trace' : List ℕ) (item : Item) → PutsBoth before m tty trace [] (item ∷ []) tty' trace' → Breaks m now Tty tty' → SendsLastFront before now tty trace (line item)
 ends-broke_tty before m now tty trace tty' trace' item t b = record {
   tty = subst (λ (x : List ℕ). GrewFront (before Tty) (now Tty) x) (append-nil tty) (front-puts_more _ _ _ tty [] tty' t.tty (front-sends _ _ tty' b.front));
   trace = front-to _ _ _ _ (b.others Trace (λ e. cc)) (subst (λ (x : List ℕ). GrewFront (before Trace) (m Trace) (trace ++ x)) (trace_text-one item) (front-puts _ _ trace _ trace' t.trace));
@@ -73,8 +73,8 @@ ends-broke_tty before m now tty trace tty' trace' item t b = record {
 }
 
 -- the trace's piece broke
-pub ends-broke_trace : (before m n now : Sent) (tty trace tty' trace' : List ℕ) (item : Item) → Tells before m tty trace [] (item ∷ []) tty' trace'
-    → Grew (m Tty) (n Tty) tty' → OnlyOn Tty m n → Breaks n now Trace trace' → EndsFront before now tty trace (line item)
+pub ends-broke_trace : (before m n now : Sent) (tty trace tty' trace' : List ℕ) (item : Item) → PutsBoth before m tty trace [] (item ∷ []) tty' trace'
+    → Grew (m Tty) (n Tty) tty' → OnlyOn Tty m n → Breaks n now Trace trace' → SendsLastFront before now tty trace (line item)
 ends-broke_trace before m n now tty trace tty' trace' item t g only b = record {
   tty = front-to _ _ _ tty (b.others Tty (λ e. cc)) (front-all _ _ tty (subst (λ (x : List ℕ). Grew (before Tty) (n Tty) x) (append-nil tty) (grew-puts _ _ _ tty [] tty' t.tty g)));
   trace = subst (λ (x : List ℕ). GrewFront (before Trace) (now Trace) (trace ++ x)) (trace_text-one item)
@@ -128,7 +128,7 @@ ram-broke_scratchpad m main scratchpad a b c p q g f =
 
 -- ---- the whole
 
-pub delivered : (whole : Outcome) (stop : Stop) (b : View) (before mid end now : Sent) (tty trace : List ℕ) → Stopped whole stop b before mid tty trace → Ends mid end tty trace (line (S b.taken stop))
+pub delivered : (whole : Outcome) (stop : Stop) (b : View) (before mid end now : Sent) (tty trace : List ℕ) → Stopped whole stop b before mid tty trace → SendsLast mid end tty trace (line (S b.taken stop))
     → Grew (end Ram) (now Ram) (ram_text b.core.bytes) → OnlyOn Ram end now → Delivers before now whole
 delivered whole stop b before mid end now tty trace s e g only = record {
   tty = grew-to _ _ _ _ (only Tty (λ x. cc)) (stream-grew _ _ _ tty [] _ s.tty (subst (λ (x : List ℕ). Grew (mid Tty) (end Tty) x) (sym (append-nil tty)) e.tty));
@@ -137,7 +137,7 @@ delivered whole stop b before mid end now tty trace s e g only = record {
   report = only Report (λ x. cc) ∙ e.report ∙ s.report;
 }
 
-pub broke-end : (whole : Outcome) (stop : Stop) (b : View) (before mid now : Sent) (tty trace : List ℕ) → Stopped whole stop b before mid tty trace → EndsFront mid now tty trace (line (S b.taken stop)) → BreaksOff before now whole
+pub broke-end : (whole : Outcome) (stop : Stop) (b : View) (before mid now : Sent) (tty trace : List ℕ) → Stopped whole stop b before mid tty trace → SendsLastFront mid now tty trace (line (S b.taken stop)) → BreaksOff before now whole
 broke-end whole stop b before mid now tty trace s e = record {
   tty = stream-front _ _ _ tty [] _ s.tty (subst (λ (x : List ℕ). GrewFront (mid Tty) (now Tty) x) (sym (append-nil tty)) e.tty);
   trace = stream-front _ _ _ trace _ _ s.trace e.trace;
@@ -146,7 +146,7 @@ broke-end whole stop b before mid now tty trace s e = record {
   report = e.report ∙ s.report;
 }
 
-pub broke-ram : (whole : Outcome) (stop : Stop) (b : View) (before mid end now : Sent) (tty trace : List ℕ) → Stopped whole stop b before mid tty trace → Ends mid end tty trace (line (S b.taken stop))
+pub broke-ram : (whole : Outcome) (stop : Stop) (b : View) (before mid end now : Sent) (tty trace : List ℕ) → Stopped whole stop b before mid tty trace → SendsLast mid end tty trace (line (S b.taken stop))
     → GrewFront (end Ram) (now Ram) (ram_text b.core.bytes) → OnlyOn Ram end now → BreaksOff before now whole
 broke-ram whole stop b before mid end now tty trace s e f only =
     let t = grew-to _ _ _ _ (only Tty (λ x. cc)) (stream-grew _ _ _ tty [] _ s.tty (subst (λ (x : List ℕ). Grew (mid Tty) (end Tty) x) (sym (append-nil tty)) e.tty)) in

@@ -6,7 +6,7 @@ use Rattle.psx_base.specs.declared.stop.Stop.{Stop}
 use Rattle.psx_base.specs.declared.stop.Stop.TheVariants.{Exit, Budget}
 use Rattle.psx_base.specs.Host.{Rose}
 use Rattle.psx_board.specs.Run.{Outcome}
-use Rattle.psxk_run.specs.Reports.{stop_line, memory_line}
+use Rattle.psxk_run.specs.Reports.{stop_line}
 use Rattle.psxk_run.specs.Sent.{Grew, OnlyReports, Says, SentAlone}
 use Rattle.psxk_run.specs.Texts.{report_of, status_of, Delivers}
 use Rattle.psxk_run.specs.Top.{HasTexts, RunsBoard, RunsProgram, MakesText}
@@ -15,22 +15,10 @@ pub grew_nothing : (b : Option (List ℕ)) → Grew b b []
 grew_nothing None = tt
 grew_nothing (Some u) = ap Some (sym (append-nil u))
 
--- what is reported of a stop, by its status
-pub quiet_report : (stop : Stop) → status_of stop ≡ 0 → report_of stop ≡ []
-quiet_report (Exit code) h = refl
-quiet_report Budget h = refl
-quiet_report stop h = absurd (omega (arith, h))
-
 pub loud_report : (stop : Stop) → status_of stop ≢ 0 → report_of stop ≡ stop_line stop
 loud_report (Exit code) h = absurd (h refl)
 loud_report Budget h = absurd (h refl)
 loud_report stop h = refl
-
--- nothing is reported of a stop with status 0
-pub says_nothing : (sent : Out → Option (List ℕ)) (faults : ℕ) (stop : Stop) (status : ℕ) → status ≡ status_of stop → status ≡ 0 → Says sent sent faults faults (report_of stop) (status_of stop) 0
-says_nothing sent faults stop status is none =
-    let e : status_of stop ≡ 0 = sym is ∙ none in
-    inl (sym e, rw (quiet_report stop e) (grew_nothing (sent Report)))
 
 -- a report of a stop
 pub says_stop : (before now : Out → Option (List ℕ)) (fb fn : ℕ) (stop : Stop) (status result : ℕ) (text : List ℕ) → status ≡ status_of stop → status ≢ 0 → text ≡ stop_line stop → Says before now fb fn text status result → Says before now fb fn (report_of stop) (status_of stop) result
@@ -54,11 +42,6 @@ runs_done old mid new f0 f1 f2 o stop result is texts only up (inl said) = inl (
   },
 )
 runs_done old mid new f0 f1 f2 o stop result is texts only up (inr failed) = inr (failed.0, rose_later f0 f1 f2 up failed.1)
-
--- want of memory, reported
-pub runs_memory : (before now : Out → Option (List ℕ)) (fb fn : ℕ) (o : Outcome) (result : ℕ) → OnlyReports before now → Says before now fb fn memory_line 7 result → RunsProgram before now fb fn o result
-runs_memory before now fb fn o result only (inl said) = inl (said.0, only, said.1)
-runs_memory before now fb fn o result only (inr failed) = inr (inr failed)
 
 -- the status of a stop is 0 or 1
 pub status_of-le : (stop : Stop) → status_of stop ≤ 1

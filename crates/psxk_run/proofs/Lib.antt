@@ -12,7 +12,6 @@ pub mod ConfigAnswer
 pub mod ConfigProgress
 pub mod Loading
 pub mod PrintedWords
-pub mod SameText
 pub mod PlacedBytes
 pub mod Windowed
 pub mod TextLines

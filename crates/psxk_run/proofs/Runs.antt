@@ -15,8 +15,8 @@ use Rattle.psx_board.specs.Turn.{Turn, On, Final, turn}
 use Rattle.psx_board.specs.Run.{Outcome, run, ended, then_run}
 use Rattle.psx_board.specs.Stands.{View, Stands, Turned, WentOn, told_items, begun, console_bytes}
 use Rattle.psxk_run.specs.Texts.{trace_text, BreaksOff, Partway}
-use Rattle.psxk_run.specs.Pieces.{Tells, Stream, BreaksOne, AtTty, AtTrace}
-use Rattle.psxk_run.specs.Underway.{Underway, Reached, Stopped, Made}
+use Rattle.psxk_run.specs.Pieces.{PutsBoth, Stream, BreaksOne, AtTty, AtTrace}
+use Rattle.psxk_run.specs.Underway.{Underway, Reached, Stopped, Advanced}
 use Rattle.psxk_run.proofs.Tellings.{trace_text-append, trace_text-one}
 use Rattle.psxk_run.proofs.Streams.{stream-start, stream-puts, stream-front, front-none, front-sends, front-more}
 
@@ -47,7 +47,7 @@ reached-start n b m sent b0 s e = record {
 -- a step that went on told its bytes and lines
 on-step : (whole : Outcome) (n : ℕ) (m : Machine) (t : Turn) (did : Did) (new : View) (b0 : Bool) (before mid now : Out → Option (List ℕ)) (tty trace tty' trace' : List ℕ)
     → Turned m t did new → WentOn did → m.began ≡ b0 → Underway whole (then_run t (run n)) before mid tty trace
-    → Tells mid now tty trace (console_bytes did) (told_items m.began (delivery.line m) m.history.now did new.core) tty' trace'
+    → PutsBoth mid now tty trace (console_bytes did) (told_items m.began (delivery.line m) m.history.now did new.core) tty' trace'
     → Reached whole n new (begun b0 did) before now tty' trace'
 on-step whole n m (Final last stop) did new b0 before mid now tty trace tty' trace' h went e u t = absurd (subst WentOn h.told went)
 on-step whole n m (On next items bytes) did new b0 before mid now tty trace tty' trace' h went e u t =
@@ -107,7 +107,7 @@ went_on (Barred stop) h = h stop refl
 pub reached-on : (whole : Outcome) (n i : ℕ) (old new : View) (did : Did) (b0 line : Bool) (count : ℕ) (before mid now : Out → Option (List ℕ)) (tty trace tty' trace' : List ℕ)
     → i < n → (r : Reached whole (n - i) old b0 before mid tty trace) → Turned r.machine (turn r.machine) did new → WentOn did
     → line ≡ delivery.line r.machine → count ≡ old.taken
-    → Tells mid now tty trace (console_bytes did) (told_items b0 line count did new.core) tty' trace'
+    → PutsBoth mid now tty trace (console_bytes did) (told_items b0 line count did new.core) tty' trace'
     → Reached whole (n - (i + 1)) new (begun b0 did) before now tty' trace'
 reached-on whole n i old new did b0 line count before mid now tty trace tty' trace' h r turned went l c t =
     let m = r.machine in
@@ -115,7 +115,7 @@ reached-on whole n i old new did b0 line count before mid now tty trace tty' tra
     (λ j. told_items (sym r.began j) (l j) ((c ∙ r.stands.taken) j) did new.core) in
     on-step whole (n - (i + 1)) m (turn m) did new b0 before mid now tty trace tty' trace' turned went r.began
     (from-run whole _ _ before mid tty trace (run-more n i m h) r.underway)
-    (subst (λ (xs : List Item). Tells mid now tty trace (console_bytes did) xs tty' trace') told t)
+    (subst (λ (xs : List Item). PutsBoth mid now tty trace (console_bytes did) xs tty' trace') told t)
 
 pub reached-stop : (whole : Outcome) (n i : ℕ) (old new : View) (stop : Stop) (b0 : Bool) (before now : Out → Option (List ℕ)) (tty trace : List ℕ)
     → i < n → (r : Reached whole (n - i) old b0 before now tty trace) → Turned r.machine (turn r.machine) (Barred stop) new → Stopped whole stop new before now tty trace
@@ -151,11 +151,11 @@ reached-breaks whole n b b0 before mid now tty trace r (AtTrace e) =
 
 -- ---- the steps that were made
 
-pub made-start : (m : Machine) (b : View) → Stands b m → Made m 0 b
+pub made-start : (m : Machine) (b : View) → Stands b m → Advanced m 0 b
 made-start m b s = record { machine = m; stands = s; further = λ more. (let same : 0 + more ≡ more = omega arith in ap (λ (k : ℕ). (run k m).last) same) }
 
 made-step : (first m : Machine) (done : ℕ) (t : Turn) (did : Did) (new : View) → Turned m t did new → WentOn did
-    → ((more : ℕ) → (run (done + suc more) first).last ≡ (then_run t (run more)).last) → Made first (done + 1) new
+    → ((more : ℕ) → (run (done + suc more) first).last ≡ (then_run t (run more)).last) → Advanced first (done + 1) new
 made-step first m done (Final last stop) did new h went e = absurd (subst WentOn h.told went)
 made-step first m done (On next items bytes) did new h went e = record {
   machine = next;
@@ -163,12 +163,12 @@ made-step first m done (On next items bytes) did new h went e = record {
   further = λ more. let same : done + 1 + more ≡ done + suc more = omega arith in rw same (e more);
 }
 
-pub made-on : (first : Machine) (done : ℕ) (old new : View) (did : Did) → (d : Made first done old) → Turned d.machine (turn d.machine) did new → WentOn did → Made first (done + 1) new
+pub made-on : (first : Machine) (done : ℕ) (old new : View) (did : Did) → (d : Advanced first done old) → Turned d.machine (turn d.machine) did new → WentOn did → Advanced first (done + 1) new
 made-on first done old new did d turned went =
     made-step first d.machine done (turn d.machine) did new turned went
     (λ more. d.further (suc more) ∙ ap (λ (o : Outcome). o.last) (run-suc more d.machine))
 
-pub made-partway : (first : Machine) (done n : ℕ) (b : View) → Made first done b → done ≤ n → Partway b n first
+pub made-partway : (first : Machine) (done n : ℕ) (b : View) → Advanced first done b → done ≤ n → Partway b n first
 made-partway first done n b d h = record {
   made = done;
   within = h;

@@ -17,10 +17,10 @@ use Rattle.psxk_run.specs.Commands.{IsHindered, Answers, AnswersProgram, Answers
 use Rattle.psxk_run.specs.Inputs.{IsLoaded, IsTold, GivesProgram, GivesEntries, GivesSchedule, GivesNumbers, GivesSizes, GivesAll, Gives, IsCause, OfProgram, GivesPlaced, OfText}
 use Rattle.psxk_run.specs.Refusals.{status_of}
 use Rattle.psxk_run.proofs.ConfigAnswer as configurations
-use Rattle.psxk_run.proofs.SameText as texts
 use Rattle.psxk_run.specs.Assembling.{window_from, window_to}
 use Rattle.psx_asm.specs.declared.fault.AsmError.{AsmError}
 use Rattle.psx_asm.specs.Assembly.{Placed}
+use Rattle.psx_asm.proofs.Whole.{each_text}
 
 told-loaded : (held : List ℕ → Option (List ℕ)) (limit : ℕ) (name a b : List ℕ) → IsTold held limit name a → IsLoaded held limit name b → a ≡ b
 told-loaded held limit name a b t l = t.first ∙ sym (subst (λ (o : Option (List ℕ)). IsFront limit o b) t.told l)
@@ -54,10 +54,6 @@ hindered result (inr e) = inr (inr e)
 answers-run : (result : ℕ) → (result ≤ 1) ⊎ ((result ≡ 6) ⊎ (result ≡ 7)) → (result ≤ 1) ⊎ IsHindered result
 answers-run result (inl low) = inl low
 answers-run result (inr rest) = inr (hindered result rest)
-
-answers-said : (status result : ℕ) → (result ≡ status) ⊎ (result ≡ 6) → (result ≡ status) ⊎ IsHindered result
-answers-said status result (inl e) = inl e
-answers-said status result (inr e) = inr (inr (inl e))
 
 -- what was told of a run's files and what hindered its loads
 module _ (held : List ℕ → Option (List ℕ)) (before now : List ℕ → ℕ) (c : RunWords) (result : ℕ) where
@@ -125,7 +121,9 @@ module _ (held : List ℕ → Option (List ℕ)) (before now : List ℕ → ℕ)
 -- what was told of an assembly text's file
 module _ (held : List ℕ → Option (List ℕ)) (before now : List ℕ → ℕ) (name : List ℕ) (result : ℕ) where
   placed-same : (a b : Result Placed AsmError) → GivesPlaced (IsTold held) name a → GivesPlaced (IsLoaded held) name b → a ≡ b
-  placed-same a b t l = texts.one_answer l.text window_from window_to a b (rw (← told-loaded held 4194305 name t.text l.text t.known l.known) t.is) l.is
+  placed-same a b t l =
+      let one = (each_text l.text window_from window_to).2 in
+      one a (rw (← told-loaded held 4194305 name t.text l.text t.known l.known) t.is) ∙ sym (one b l.is)
 
   -- a text that was assembled
   pub answers-text : (placed : Placed) → GivesPlaced (IsLoaded held) name (Ok placed) → (result ≡ 0) ⊎ ((result ≡ 6) ⊎ (result ≡ 7)) → (answer : Result Placed AsmError) → GivesPlaced (IsTold held) name answer → AnswersText answer result

@@ -10,9 +10,9 @@ use Rattle.psxk_run.specs.Command.{Command, ToRun, ToImage, ToPrint, ToAssemble}
 use Rattle.psxk_run.specs.Ends.{Moment, EndsWork}
 use Rattle.psxk_run.specs.Refusals as refusals
 use Rattle.psxk_run.specs.Reports.{memory_line}
-use Rattle.psxk_run.specs.Sent.{Grew, OnlyReports}
+use Rattle.psxk_run.specs.Sent.{Grew}
 use Rattle.psxk_run.specs.Texts.{status_of}
-use Rattle.psxk_run.specs.Top.{IsStatus, IsFaulty, IsQuiet, RunsProgram, MakesText, WantsMemory}
+use Rattle.psxk_run.specs.Top.{IsStatus, IsFaulty, RunsProgram, MakesText, WantsMemory}
 use Rattle.psxk_run.proofs.Ends.{status_of-le}
 
 -- a command that was carried out was done with status 0 or 1, or a sending failed, or memory was wanting
@@ -104,11 +104,3 @@ not-faulty result (inr (inr e)) f = outside result (omega (arith, e)) (omega (ar
 
 pub five-faulty : {P : Type 0} (result : ℕ) → result ≡ 5 → IsFaulty result → P
 five-faulty result e f = outside result (omega (arith, e)) (omega (arith, e)) (faulty-range result f).1
-
--- a command that was carried out and is quiet wanted memory
-pub carried-quiet : (before now : Out → Option (List ℕ)) (fb fn status : ℕ) → Carried before now fb fn status → IsQuiet status → OnlyReports before now
-carried-quiet before now fb fn status (inl memory) q = memory.1
-carried-quiet before now fb fn status c (inl f) = not-faulty status (carried-status before now fb fn status c) f
-carried-quiet before now fb fn status c (inr (inl five)) = carried-five before now fb fn status c five
-carried-quiet before now fb fn status (inr (inl low)) (inr (inr seven)) = absurd (omega (arith, low, seven))
-carried-quiet before now fb fn status (inr (inr failed)) (inr (inr seven)) = absurd (omega (arith, failed.0, seven))

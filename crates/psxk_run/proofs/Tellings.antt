@@ -6,7 +6,7 @@ use Rattle.psx_base.specs.Items.{Item}
 use Rattle.psx_trace.specs.Line.{line}
 use Rattle.psxk_run.specs.Sent.{Grew, OnlyOn}
 use Rattle.psxk_run.specs.Texts.{trace_text}
-use Rattle.psxk_run.specs.Pieces.{Puts, Tells}
+use Rattle.psxk_run.specs.Pieces.{Puts, PutsBoth}
 
 pub trace_text-nil : trace_text [] ≡ []
 unfolding trace_text
@@ -33,7 +33,7 @@ pub puts-none : (before now : Option (List ℕ)) (piece : List ℕ) → now ≡ 
 puts-none before now piece same = record { sent = []; grew = grew-none before now same; kept = sym (append-nil piece) }
 
 -- nothing is told
-pub tells-none : (before : Out → Option (List ℕ)) (tty trace : List ℕ) → Tells before before tty trace [] [] tty trace
+pub tells-none : (before : Out → Option (List ℕ)) (tty trace : List ℕ) → PutsBoth before before tty trace [] [] tty trace
 tells-none before tty trace = record {
   tty = puts-none (before Tty) (before Tty) tty refl;
   trace = rw trace_text-nil (puts-none (before Trace) (before Trace) trace refl);
@@ -43,7 +43,7 @@ tells-none before tty trace = record {
 
 -- the line of an item was put behind the trace's piece
 pub tells-line : (before now : Out → Option (List ℕ)) (tty trace bytes later : List ℕ) (item : Item) → bytes ≡ line item
-    → Puts (before Trace) (now Trace) trace bytes later → OnlyOn Trace before now → Tells before now tty trace [] (item ∷ []) tty later
+    → Puts (before Trace) (now Trace) trace bytes later → OnlyOn Trace before now → PutsBoth before now tty trace [] (item ∷ []) tty later
 tells-line before now tty trace bytes later item is puts only = record {
   tty = puts-none (before Tty) (now Tty) tty (only Tty (λ e. cc));
   trace = rw (trace_text-one item, ← is) puts;
@@ -53,7 +53,7 @@ tells-line before now tty trace bytes later item is puts only = record {
 
 -- bytes were put behind the console's piece
 pub tells-bytes : (before now : Out → Option (List ℕ)) (tty trace bytes later : List ℕ)
-    → Puts (before Tty) (now Tty) tty bytes later → OnlyOn Tty before now → Tells before now tty trace bytes [] later trace
+    → Puts (before Tty) (now Tty) tty bytes later → OnlyOn Tty before now → PutsBoth before now tty trace bytes [] later trace
 tells-bytes before now tty trace bytes later puts only = record {
   tty = puts;
   trace = rw trace_text-nil (puts-none (before Trace) (now Trace) trace (only Trace (λ e. cc)));

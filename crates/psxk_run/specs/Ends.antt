@@ -68,6 +68,6 @@ pub record EndsRefused (old new : Moment) (c : Command) (status : ℕ) : Type 0 
   pub front : GrewFront (old.sent Report) (new.sent Report) (line_of refusal)
   pub only : OnlyReports old.sent new.sent
 
-pub data Ends (old new : Moment) (c : Command) (status : ℕ) : Type 0 where
-  ByWork : EndsWork old new c status → Ends old new c status
-  ByRefusal : EndsRefused old new c status → Ends old new c status
+pub data CommandEnds (old new : Moment) (c : Command) (status : ℕ) : Type 0 where
+  ByWork : EndsWork old new c status → CommandEnds old new c status
+  ByRefusal : EndsRefused old new c status → CommandEnds old new c status

@@ -19,7 +19,7 @@ pub record Breaks (before now : Out → Option (List ℕ)) (out : Out) (piece : 
   pub others : OnlyOn out before now
 
 -- bytes and lines were put behind the two pieces
-pub record Tells (before now : Out → Option (List ℕ)) (tty_piece trace_piece : List ℕ) (bytes : List ℕ) (items : List Item) (later_tty later_trace : List ℕ) : Type 0 where
+pub record PutsBoth (before now : Out → Option (List ℕ)) (tty_piece trace_piece : List ℕ) (bytes : List ℕ) (items : List Item) (later_tty later_trace : List ℕ) : Type 0 where
   pub tty : Puts (before Tty) (now Tty) tty_piece bytes later_tty
   pub trace : Puts (before Trace) (now Trace) trace_piece (trace_text items) later_trace
   pub ram : now Ram ≡ before Ram
@@ -37,14 +37,14 @@ pub record Stream (before now : Option (List ℕ)) (piece rest whole : List ℕ)
   pub all : (sent ++ piece) ++ rest ≡ whole
 
 -- the two pieces were sent, the trace's with its last line
-pub record Ends (before now : Out → Option (List ℕ)) (tty_piece trace_piece text : List ℕ) : Type 0 where
+pub record SendsLast (before now : Out → Option (List ℕ)) (tty_piece trace_piece text : List ℕ) : Type 0 where
   pub tty : Grew (before Tty) (now Tty) tty_piece
   pub trace : Grew (before Trace) (now Trace) (trace_piece ++ text)
   pub ram : now Ram ≡ before Ram
   pub report : now Report ≡ before Report
 
 -- a front of each was
-pub record EndsFront (before now : Out → Option (List ℕ)) (tty_piece trace_piece text : List ℕ) : Type 0 where
+pub record SendsLastFront (before now : Out → Option (List ℕ)) (tty_piece trace_piece text : List ℕ) : Type 0 where
   pub tty : GrewFront (before Tty) (now Tty) tty_piece
   pub trace : GrewFront (before Trace) (now Trace) (trace_piece ++ text)
   pub ram : now Ram ≡ before Ram

@@ -37,7 +37,7 @@ pub record Stopped (whole : Outcome) (stop : Stop) (b : View) (before now : Out 
   pub report : now Report ≡ before Report
 
 -- a board stands for a machine whose further steps, however many, are those of a run after its first ones
-pub record Made (first : Machine) (done : ℕ) (b : View) : Type 0 where
+pub record Advanced (first : Machine) (done : ℕ) (b : View) : Type 0 where
   pub machine : Machine
   pub stands : Stands b machine
   pub further : (more : ℕ) → (run (done + more) first).last ≡ (run more machine).last

@@ -7,7 +7,7 @@ ghost use Rattle.psx_cpu.specs.Views.{core_of};
 ghost use Rattle.psx_board.specs.Turn.{shown, write_shown};
 ghost use Rattle.psx_board.specs.Stands.{told_items, begun, console_bytes};
 ghost use Rattle.psxk_run.specs.Sent.{GoesOn};
-ghost use Rattle.psxk_run.specs.Pieces.{Tells, BreaksOne, Ends, EndsFront};
+ghost use Rattle.psxk_run.specs.Pieces.{PutsBoth, BreaksOne, SendsLast, SendsLastFront};
 ghost use Rattle.psx_trace.specs.Line;
 ghost use Rattle.std.specs.Prelude.{[], ◌∷◌, false, if◌then◌else◌, nat_eq, ◌%◌};
 ghost use Rattle.psx_base.specs.Items.{S};
@@ -44,7 +44,7 @@ impl Lines {
 
     // Writes the line of an item.
     pub(crate) fn line<H: Host>(&mut self, host: &mut H, item: Item) -> Result<(), SendError>
-        ensures tells { OnOk result (Tells (H.sent host.old) (H.sent host.new) self.old.tty.items self.old.trace.items [] (item_of item ∷ []) self.new.tty.items self.new.trace.items) }
+        ensures tells { OnOk result (PutsBoth (H.sent host.old) (H.sent host.new) self.old.tty.items self.old.trace.items [] (item_of item ∷ []) self.new.tty.items self.new.trace.items) }
         ensures began { self.new.began ≡ self.old.began }
         ensures breaks { OnErr result (BreaksOne (H.sent host.old) (H.sent host.new) self.old.tty.items self.old.trace.items) }
         ensures failed { OnErr result (Rose (H.send_faults host.old) (H.send_faults host.new)) }
@@ -57,7 +57,7 @@ impl Lines {
 
     // Writes the line of an item where the trace has begun.
     fn show<H: Host>(&mut self, host: &mut H, item: Item) -> Result<(), SendError>
-        ensures tells { OnOk result (Tells (H.sent host.old) (H.sent host.new) self.old.tty.items self.old.trace.items [] (shown self.old.began (item_of item)) self.new.tty.items self.new.trace.items) }
+        ensures tells { OnOk result (PutsBoth (H.sent host.old) (H.sent host.new) self.old.tty.items self.old.trace.items [] (shown self.old.began (item_of item)) self.new.tty.items self.new.trace.items) }
         ensures began { self.new.began ≡ self.old.began }
         ensures breaks { OnErr result (BreaksOne (H.sent host.old) (H.sent host.new) self.old.tty.items self.old.trace.items) }
         ensures failed { OnErr result (Rose (H.send_faults host.old) (H.send_faults host.new)) }
@@ -71,7 +71,7 @@ impl Lines {
 
     // Writes a byte of the console.
     fn byte<H: Host>(&mut self, host: &mut H, byte: u8) -> Result<(), SendError>
-        ensures tells { OnOk result (Tells (H.sent host.old) (H.sent host.new) self.old.tty.items self.old.trace.items (byte ∷ []) [] self.new.tty.items self.new.trace.items) }
+        ensures tells { OnOk result (PutsBoth (H.sent host.old) (H.sent host.new) self.old.tty.items self.old.trace.items (byte ∷ []) [] self.new.tty.items self.new.trace.items) }
         ensures began { self.new.began ≡ self.old.began }
         ensures breaks { OnErr result (BreaksOne (H.sent host.old) (H.sent host.new) self.old.tty.items self.old.trace.items) }
         ensures failed { OnErr result (Rose (H.send_faults host.old) (H.send_faults host.new)) }
@@ -88,8 +88,8 @@ impl Lines {
         count: u64,
         stop: Stop,
     ) -> Result<(), SendError>
-        ensures ends { OnOk result (Ends (H.sent host.old) (H.sent host.new) self.old.tty.items self.old.trace.items (Line.line (S count stop))) }
-        ensures fronts { OnErr result (EndsFront (H.sent host.old) (H.sent host.new) self.old.tty.items self.old.trace.items (Line.line (S count stop))) }
+        ensures ends { OnOk result (SendsLast (H.sent host.old) (H.sent host.new) self.old.tty.items self.old.trace.items (Line.line (S count stop))) }
+        ensures fronts { OnErr result (SendsLastFront (H.sent host.old) (H.sent host.new) self.old.tty.items self.old.trace.items (Line.line (S count stop))) }
         ensures failed { OnErr result (Rose (H.send_faults host.old) (H.send_faults host.new)) }
         ensures on { GoesOn H.holds H.load_faults H.send_faults host.old host.new }
     {
@@ -113,7 +113,7 @@ impl Lines {
         at: u32,
         value: u32,
     ) -> Result<(), SendError>
-        ensures tells { OnOk result (Tells (H.sent host.old) (H.sent host.new) self.old.tty.items self.old.trace.items
+        ensures tells { OnOk result (PutsBoth (H.sent host.old) (H.sent host.new) self.old.tty.items self.old.trace.items
             (if nat_eq at CONSOLE_DATA then (value % 2 ^ 8) ∷ [] else []) (write_shown self.old.began count at value) self.new.tty.items self.new.trace.items) }
         ensures began { self.new.began ≡ self.old.began }
         ensures breaks { OnErr result (BreaksOne (H.sent host.old) (H.sent host.new) self.old.tty.items self.old.trace.items) }
@@ -139,7 +139,7 @@ impl Lines {
         cpu: &Cpu,
     ) -> Result<(), SendError>
         requires { count + 1 < 2 ^ 64 }
-        ensures tells { (bytes : Memory) → OnOk result (Tells (H.sent host.old) (H.sent host.new) self.old.tty.items self.old.trace.items
+        ensures tells { (bytes : Memory) → OnOk result (PutsBoth (H.sent host.old) (H.sent host.new) self.old.tty.items self.old.trace.items
             (console_bytes did) (told_items self.old.began line count did (core_of cpu.now bytes)) self.new.tty.items self.new.trace.items) }
         ensures began { OnOk result (self.new.began ≡ begun self.old.began did) }
         ensures breaks { OnErr result (BreaksOne (H.sent host.old) (H.sent host.new) self.old.tty.items self.old.trace.items) }

@@ -10,7 +10,7 @@ ghost use Rattle.abs_run.specs.Accepted.{IsAccepted};
 ghost use Rattle.psxk_run.specs.Command.{command_of, ToRun, ToPrint, ToAssemble};
 ghost use Rattle.psxk_run.specs.Commands.{Decides};
 ghost use Rattle.psxk_run.specs.Printing.{printing};
-ghost use Rattle.psxk_run.specs.Ends.{Ends, moment};
+ghost use Rattle.psxk_run.specs.Ends.{CommandEnds, moment};
 ghost use Rattle.psxk_run.specs.InPart.{HasFronts, ReportsFront, TextInPart, WordsInPart};
 ghost use Rattle.psxk_run.specs.Inputs.{IsRunnable};
 ghost use Rattle.psxk_run.specs.Reports.{usage_line, memory_line};
@@ -113,7 +113,7 @@ fn run_program<H: Host>(alloc: Global, host: &mut H, inputs: Inputs, budget: u32
 // Runs the program of a run's files.
 fn run_files<H: Host>(alloc: Global, host: &mut H, run: Run) -> u8
     requires { 0 < run.budget }
-    ensures ends { Ends (moment H.holds H.sent H.load_faults H.send_faults host.old) (moment H.holds H.sent H.load_faults H.send_faults host.new) (ToRun (told_run run.entry)) result }
+    ensures ends { CommandEnds (moment H.holds H.sent H.load_faults H.send_faults host.old) (moment H.holds H.sent H.load_faults H.send_faults host.new) (ToRun (told_run run.entry)) result }
     ensures on { GoesOn H.holds H.load_faults H.send_faults host.old host.new }
 {
     match prepare(alloc, host, run) {
@@ -164,7 +164,7 @@ fn send_printing<H: Host>(alloc: Global, host: &mut H, exe: &Exe) -> u8
 
 // Prints the words of a program's file.
 fn print_file<H: Host>(alloc: Global, host: &mut H, name: &str) -> u8
-    ensures ends { Ends (moment H.holds H.sent H.load_faults H.send_faults host.old) (moment H.holds H.sent H.load_faults H.send_faults host.new) (ToPrint name.now) result }
+    ensures ends { CommandEnds (moment H.holds H.sent H.load_faults H.send_faults host.old) (moment H.holds H.sent H.load_faults H.send_faults host.new) (ToPrint name.now) result }
     ensures on { GoesOn H.holds H.load_faults H.send_faults host.old host.new }
 {
     match load_exe(alloc, host, name) {
@@ -188,7 +188,7 @@ fn send_assembling<H: Host>(alloc: Global, host: &mut H, object: &Object) -> u8
 
 // Assembles the text of a file.
 fn assemble_file<H: Host>(alloc: Global, host: &mut H, name: &str) -> u8
-    ensures ends { Ends (moment H.holds H.sent H.load_faults H.send_faults host.old) (moment H.holds H.sent H.load_faults H.send_faults host.new) (ToAssemble name.now) result }
+    ensures ends { CommandEnds (moment H.holds H.sent H.load_faults H.send_faults host.old) (moment H.holds H.sent H.load_faults H.send_faults host.new) (ToAssemble name.now) result }
     ensures on { GoesOn H.holds H.load_faults H.send_faults host.old host.new }
 {
     match load_text(alloc, host, name) {
@@ -200,7 +200,7 @@ fn assemble_file<H: Host>(alloc: Global, host: &mut H, name: &str) -> u8
 // Does what the words ask for.
 fn run_command<H: Host>(alloc: Global, host: &mut H, request: Request) -> u8
     requires { HasBudget request }
-    ensures ends { Ends (moment H.holds H.sent H.load_faults H.send_faults host.old) (moment H.holds H.sent H.load_faults H.send_faults host.new) (told request.entry) result }
+    ensures ends { CommandEnds (moment H.holds H.sent H.load_faults H.send_faults host.old) (moment H.holds H.sent H.load_faults H.send_faults host.new) (told request.entry) result }
     ensures on { GoesOn H.holds H.load_faults H.send_faults host.old host.new }
 {
     match request {

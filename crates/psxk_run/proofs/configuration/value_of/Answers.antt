@@ -1,20 +1,13 @@
-use Rattle.std.proofs.Common.{◌≡◌, ℕ, zero, suc, ◌+◌, ◌*◌, ◌^◌, ◌<◌, ◌≤◌, List, [], ◌∷◌, drop, drop-cons, add-one, length, get_or, arith}
+use Rattle.std.proofs.Common.{ℕ, zero, suc, ◌^◌, ◌<◌, ◌≤◌, List, [], ◌∷◌, length, get_or, arith}
 use Rattle.std.specs.Char.{digit_value}
-use Rattle.std.specs.Str.Parse.{AllDigits, digits_value_after}
-use Rattle.std.proofs.Math.Nat.{pow-suc, pow-le-pow_right}
+use Rattle.std.specs.Str.Parse.{AllDigits}
+use Rattle.std.proofs.Math.Nat.{pow-le-pow_right}
 use Rattle.psxk_run.proofs.configuration.value_of.Goals as goal
 
 digit_small : (ds : List ℕ) (i : ℕ) → AllDigits 16 ds → i < length ds → digit_value (get_or ds i 0) < 16
 digit_small [] i all below = absurd (omega arith)
 digit_small (d ∷ ds) zero all below = all.0
 digit_small (d ∷ ds) (suc i) all below = digit_small ds i all.1 (omega arith)
-
--- one more digit
-value_more : (v i : ℕ) (ds : List ℕ) → i < length ds → digits_value_after 16 v (drop i ds) ≡ digits_value_after 16 (v * 16 + digit_value (get_or ds i 0)) (drop (i + 1) ds)
-value_more v i ds below = rw (add-one, drop-cons ds i 0)
-
-small_more : (v d i : ℕ) → v < 16 ^ i → d < 16 → v * 16 + d < 16 ^ (i + 1)
-small_more v d i small digit = rw (add-one, pow-suc) (omega arith)
 
 eight : (v i : ℕ) → v < 16 ^ i → i ≤ 8 → v < 2 ^ 32
 eight v i small few = let most : 16 ^ i ≤ 16 ^ 8 = pow-le-pow_right (omega arith) few in omega arith

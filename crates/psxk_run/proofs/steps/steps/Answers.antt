@@ -3,7 +3,7 @@ use Rattle.psx_cpu.specs.Processor.{Core, Processor}
 use Rattle.psx_cpu.specs.Views.{core_of}
 use Rattle.psx_board.specs.Run.{run}
 use Rattle.psx_board.specs.Stands.{console_bytes, told_items}
-use Rattle.psxk_run.specs.Pieces.{Tells}
+use Rattle.psxk_run.specs.Pieces.{PutsBoth}
 use Rattle.psxk_run.proofs.GoingOn.{goes_on-same, goes_on-then, rose-since}
 use Rattle.psxk_run.proofs.Runs.{made-start, made-on, made-partway, reached-start, reached-on, reached-stop, reached-budget, reached-breaks, went_on}
 use Rattle.psxk_run.proofs.steps.steps.Goals as goal
@@ -55,7 +55,7 @@ loop-turn-preserved g c =
     record {
       reached = λ m s e.
           let r = inv.reached m s e in
-          let Told : Core → Type 0 = λ k. Tells (g.H.Host.sent c.loop-turn.host) (g.H.Host.sent c.tell.new.host) c.loop-turn.lines.tty.items c.loop-turn.lines.trace.items
+          let Told : Core → Type 0 = λ k. PutsBoth (g.H.Host.sent c.loop-turn.host) (g.H.Host.sent c.tell.new.host) c.loop-turn.lines.tty.items c.loop-turn.lines.trace.items
           (console_bytes c.step-did.result) (told_items c.loop-turn.lines.began c.line-line.result (c.taken-first.result + c.loop-turn.turn) c.step-did.result k) c.tell.new.self.tty.items c.tell.new.self.trace.items in
           let told : Told new.core = subst (λ (p : Processor). Told (core_of p new.core.bytes)) c.cpu.ensures (c.in_default-tell.ensures.tells new.core.bytes) in
           rw c.in_default-tell.ensures.began (reached-on (run c.args.budget m) c.args.budget c.loop-turn.turn c.loop-turn.board new c.step-did.result c.loop-turn.lines.began c.line-line.result (c.taken-first.result + c.loop-turn.turn)
