@@ -48,10 +48,6 @@ or_false false h = h
 in_slot_fits : (c : Context) → RunningFits c → user c.pc ≡ true → c.in_slot ≡ false → IsTrue (user ((c.next + (2 ^ 32 - 4)) % 2 ^ 32))
 in_slot_fits c r u n = rw (before_next c.pc c.next (r.follows n) (user_below c.pc u)) u
 
--- out of a slot: the instruction behind follows
-abbrev forth_fits : (c : Context) → c.next ≡ (c.pc + 4) % 2 ^ 32 → c.in_slot ≡ false → RunningFits c
-forth_fits c e n = record { follows = λ _. e; branch = λ t. absurd (false≢true (sym n ∙ t)) }
-
 -- into a slot, from a branch in user memory
 abbrev slot_fits : (c : Context) → c.in_slot ≡ true → IsTrue (user ((c.pc + (2 ^ 32 - 4)) % 2 ^ 32)) → RunningFits c
 slot_fits c t b = record { follows = λ n. absurd (false≢true (sym n ∙ t)); branch = λ _. b }

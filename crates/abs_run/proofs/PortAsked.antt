@@ -89,10 +89,6 @@ read-answered d next at value e =
     let is : asked d ≡ Some at = step-same d.core (bus_of d).line 0 (bus_of d).value ∙ ap port_read e in
     taken ∙ ap (answered d.history) is
 
-if-true : (b c : Bool) (x y z : ℕ) → (b ≡ true → x ≡ z) → (b ≡ false → c ≡ true → y ≡ z) → (b || c) ≡ true → (if b then x else y) ≡ z
-if-true true c x y z f g h = f refl
-if-true false c x y z f g h = g refl h
-
 -- the start ports read what they were given
 pub start-answered : (h : History) (at : ℕ) → is_start_port at ≡ true → answer h at ≡ start_answer h.given at 0
 unfolding answer

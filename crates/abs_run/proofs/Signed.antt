@@ -16,7 +16,7 @@ use Rattle.psx_board.specs.Machine.{Machine}
 use Rattle.psx_board.specs.Entries.{return}
 use Rattle.psx_board.specs.Turn.{Turn, On, Final, moved, accessed, shown, write_shown, after_write, by_move}
 use Rattle.abs_run.specs.InWords.{CoreFits, MoveFits}
-use Rattle.abs_run.specs.InKernel.{InKernel, in_kernel, Sign, Nothing, PortRead, PortWritten, Printed, LeftKernel, EndedRun, Strayed, halt_sign, write_sign, sign_of}
+use Rattle.abs_run.specs.InKernel.{in_kernel, Sign, Nothing, PortRead, PortWritten, Printed, LeftKernel, EndedRun, Strayed, halt_sign, write_sign, sign_of}
 use Rattle.abs_run.specs.Invariant.{Passes, accesses_of}
 use Rattle.abs_run.proofs.Delivered.{MachineFits}
 
@@ -108,9 +108,6 @@ module _ (d : Machine) (began : d.began ≡ true) where
 
     abbrev wrote : ℕ → PortDid → Turn
     wrote at did = after_write d at value did (went at)
-
-    here : InKernel
-    here = in_kernel k d.history
 
     data-signed : (at : ℕ) → at ≡ CONSOLE_DATA → Signed d (Printed (in_kernel k d.history) (value % 2 ^ 8)) (wrote at (Tty (value % 2 ^ 8)))
     data-signed at e = subst (λ (p : ℕ). Signed d (Printed (in_kernel k d.history) (value % 2 ^ 8)) (wrote p (Tty (value % 2 ^ 8)))) (sym e) (went CONSOLE_DATA, value, refl, refl, refl, after-written k CONSOLE_DATA value w)

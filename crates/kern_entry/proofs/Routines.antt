@@ -1,5 +1,5 @@
 -- The stops, and the routines.
-use Rattle.psx_flow.proofs.Kit.{◌≡◌, ℕ, suc, ◌+◌, ◌*◌, ◌%◌, ◌^◌, ◌<◌, ◌≤◌, true, false, refl, sym, ap, ◌∙◌, subst, arith, Memory, word, Registers, Cop0, Run, Access, PortWrite, Meets, calls, kernel_words, fair, start, put_word, Sym, counted, ended}
+use Rattle.psx_flow.proofs.Kit.{◌≡◌, ℕ, suc, ◌+◌, ◌*◌, ◌%◌, ◌^◌, ◌<◌, ◌≤◌, true, false, refl, ap, ◌∙◌, subst, arith, Memory, word, Registers, Cop0, Run, Access, PortWrite, Meets, calls, kernel_words, fair, start, put_word, Sym, counted, ended}
 use Rattle.std.proofs.Common.{Bool, zero, List, [], ◌∷◌, ◌/◌}
 use Rattle.std.specs.Prelude.{if◌then◌else◌, bit_and}
 use Rattle.psx_base.specs.declared.ports.TheConstants.{CONSOLE_DATA, HALT, HALT_A, HALT_B, HALT_C}
@@ -30,9 +30,6 @@ pub record Exits (value : ℕ) (c : Registers) (pc : ℕ) (on : Bool) (m : Memor
   pub to_is : to ≡ EXIT
   pub holds : AreaHolds c pc on m p most e
   pub value_is : e.regs.r4 ≡ value
-
-low_byte : (x : ℕ) → x * 2 ^ 24 % 2 ^ 32 / 2 ^ 24 ≡ x % 2 ^ 8
-low_byte x = omega arith
 
 pub exit_meets : (c : Registers) (pc : ℕ) (on : Bool) (m : Memory) (p : List Access) (most more v : ℕ) (s : Run) → AreaHolds c pc on m p most s → s.regs.r4 ≡ v → most + 10 ≤ more
     → Meets kernel_words (calls kernel_words []) (tree EXIT_NODES) EXIT (λ e. Stops 1 (PortWrite HALT_A v ∷ p) m more e) (λ _ _. ⊥) s
@@ -113,9 +110,6 @@ SysStops _ epc m p most e = ⊥
 sr_bit : (on : Bool) → bit_and (saved_sr_of on / 2 ^ 2) 1 ≡ was_on on
 sr_bit true = refl
 sr_bit false = refl
-
-not_both : (x a b : ℕ) → x ≡ a → x ≡ b → (a ≡ b → ⊥) → ⊥
-not_both x a b e f ne = ne (sym e ∙ f)
 
 module _ (c : Registers) (z : Cop0) (on : Bool) (m : Memory) (p : List Access) (most more : ℕ) (s : Run) (h : Entered c z on m p most s) (few : most + 30 ≤ more) where
   abbrev SysMeets : ℕ → Type 0

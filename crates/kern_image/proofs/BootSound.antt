@@ -78,9 +78,6 @@ module _ (g : Setting) where
   abbrev Made : ℕ → Move → Type 0
   Made n move = BootMakes g.rom g.exe g.sizes n move (B n)
 
-  goes_as : (k : Core) (n : ℕ) → B n k → (x : Core) → x ≡ k → B n x
-  goes_as k n h x e = subst (B n) (sym e) h
-
   loads : (c : Context) (z : Cop0) (m : Memory) (bus : Bus) (s t imm i n : ℕ) → IsRom (data_address c (reg s) imm) i → Base g m → B n (core (loaded c t (word_at g.rom i)) z m)
       → Made n (executed (core c z m) bus (LW (reg s) (reg t) imm))
   loads c z m bus s t imm i n r b h =

@@ -1,8 +1,7 @@
 -- The ROM's words and bytes.
 use Rattle.std.proofs.Common.{◌≡◌, ℕ, ◌+◌, ◌-◌, ◌*◌, ◌/◌, ◌%◌, ◌^◌, ◌<◌, ◌≤◌, true, cond, List, length, refl, sym, ap, subst, ⊎_elim, ◌∙◌, arith, rules, tests, get_or}
-use Rattle.std.specs.Prelude.{flat_map, is_some, nat_lt}
+use Rattle.std.specs.Prelude.{is_some, nat_lt}
 use Rattle.std.proofs.lemmas.Bool.{cases_eq, cases_lt, lt-ltb}
-use Rattle.byteorder.specs.Endian.{little_bytes}
 use Rattle.kern_image.specs.Words.{HasWords, word_of, listed}
 use Rattle.psx_base.specs.Addresses.{gate_at, place}
 use Rattle.psx_base.specs.Memory.{word, is_mapped}
@@ -30,10 +29,6 @@ length-rom_words = length-listed (λ k. rom_word (4 * k)) 0x20000
 get_or-rom_words : (k : ℕ) → k < 0x20000 → get_or rom_words k 0 ≡ rom_word (4 * k)
 unfolding rom_words
 get_or-rom_words k low = get_or-listed (λ k. rom_word (4 * k)) 0x20000 k low
-
-pub rom-from_bytes : (xs : List ℕ) → xs ≡ flat_map (little_bytes 4) rom_words → xs ≡ rom
-unfolding rom
-rom-from_bytes xs is = is
 
 pub length-rom : length rom ≡ 0x80000
 unfolding rom

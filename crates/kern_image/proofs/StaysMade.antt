@@ -1,5 +1,5 @@
 -- Words that make a stay by their accesses make it step by step.
-use Rattle.std.proofs.Common.{◌≡◌, ℕ, zero, suc, ◌≤◌, List, [], ◌∷◌, Bool, true, false, cond, Option, Some, None, refl, sym, ap, ◌∙◌, subst, arith, inl, inr, ⊎_elim}
+use Rattle.std.proofs.Common.{◌≡◌, ℕ, suc, ◌≤◌, List, [], ◌∷◌, Bool, true, false, cond, Option, Some, None, refl, sym, ap, ◌∙◌, subst, arith, inl, inr, ⊎_elim}
 use Rattle.std.specs.Prelude.{nat_eq}
 use Rattle.std.proofs.lemmas.Bool.{false≢true, true≢false, eqb-true}
 use Rattle.psx_base.specs.declared.ports.TheConstants.{CONSOLE_DATA, HALT, HALT_A, HALT_B, HALT_C}
@@ -15,7 +15,7 @@ use Rattle.abs_kernel.specs.Stay.{Stay, Return, Halt, Ask, Tell, Write, Touch}
 use Rattle.abs_kernel.specs.StayLaws.{EachEnd}
 use Rattle.abs_run.specs.InKernel.{InKernel, side_of}
 use Rattle.abs_run.specs.Serves.{Runs}
-use Rattle.kern_entry.specs.Within.{Aim, Onto, Steps, Within}
+use Rattle.kern_entry.specs.Within.{Aim, Onto, Steps}
 use Rattle.kern_entry.specs.Made.{read_of, written_of, after, IsWritten, Follows, given, Spared, IsBack, Returned, Halted, Made}
 use Rattle.kern_image.proofs.StaysSeen.{Grown, grown, SeenOf, seen_of, same_bytes}
 use Rattle.kern_image.proofs.StaysRuns.{paid, OnMove, HaltsAs, GoesHome, runs_step, runs_least, paid_least}
@@ -197,12 +197,3 @@ module _ (rom : List ℕ) (stay : Stay) (a b c : ℕ) where
     made_shows n k (PortRead at value ∷ q) h = going n k (PortRead at value ∷ q) h
     made_shows n k (PortWrite at value ∷ q) h =
         both_map (nat_eq at HALT) _ _ _ _ (λ e x. (x.0, halted (after stay q) value q k (after_ends q) x.1)) (λ e x. going n k (PortWrite at value ∷ q) x) h
-
-    onto_map : (P Q : Aim) (o : Option Core) (q : List Access) → ((k : Core) → P k q → Q k q) → Onto P o q → Onto Q o q
-    onto_map P Q None q f h = absurd h
-    onto_map P Q (Some next) q f h = f next h
-
-    pub within_shows : (n : ℕ) (k : Core) (q : List Access) → Within (Made first stay) n k q → Shows (suc n) k q
-    within_shows zero k q h = made_shows zero k q h
-    within_shows (suc n) k q (inl z) = made_shows (suc n) k q z
-    within_shows (suc n) k q (inr f) = shows_back (suc n) k q (λ bus lt. onto_map (Within (Made first stay) n) (Shows (suc n)) (went (step k bus)) (seen_at k bus q) (λ next h. within_shows n next (seen_at k bus q) h) (f bus lt))

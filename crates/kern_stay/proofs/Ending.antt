@@ -80,9 +80,6 @@ left_unwritten stay s at value next most u l =
 
 -- ---- an access at a register without an offset
 
-pub here : (a : ℕ) → a < 2 ^ 32 → (a + 0) % 2 ^ 32 ≡ a
-here a h = omega arith
-
 in_segment : (t0 t4 t5 m s : Bool) → (((t0 || (t4 || t5)) && m) || ((t0 || t4) && s)) ≡ true → ((t0 || (t4 || t5)) ≡ true) × ((m || s) ≡ true)
 in_segment true t4 t5 true s h = (refl, refl)
 in_segment true t4 t5 false s h = (refl, h)

@@ -40,7 +40,7 @@ pub record Passes (loop : ℕ) (again : List Access → Stay → Goal) (stay : S
   pub follows : Follows stay told
   pub ends : cond (nat_eq to loop) (again told (after stay told) e) (Ends 0 (after stay told) most to e)
 
--- From the loop's address the stay is made in less than so many turns. A turn makes so many steps, and where it isn't the last it has earned them: a unit is worth 128 steps. No turn makes more than `most`.
+-- From the loop's address the stay is made in at most so many turns. A turn makes so many steps, and where it isn't the last it has earned them: a unit is worth 128 steps. No turn makes more than `most`.
 abbrev pub Repeats : (own : List (ℕ × Tree)) → (most loop : ℕ) → Tree → (turns : ℕ) → Stay → Goal
 Repeats own most loop T zero stay e = ⊥
 Repeats own most loop T (suc n) stay e =

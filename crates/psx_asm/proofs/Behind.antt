@@ -1,5 +1,5 @@
 -- The first round as the code goes on.
-use Rattle.std.proofs.Common.{◌≡◌, ℕ, ◌+◌, ◌<◌, ◌≤◌, List, [], ◌∷◌, ◌++◌, length, drop, Option, Result, Ok, Err, refl, sym, ap, subst, ◌∙◌, ⊎_elim, arith}
+use Rattle.std.proofs.Common.{◌≡◌, ℕ, ◌+◌, ◌≤◌, List, [], ◌∷◌, ◌++◌, length, drop, Option, Result, Ok, Err, refl, sym, ap, subst, ◌∙◌}
 use Rattle.std.specs.List.{before_first}
 use Rattle.psx_asm.specs.declared.line.Walk.{Walk}
 use Rattle.psx_asm.specs.declared.fault.AsmFault.{AsmFault}
@@ -94,15 +94,3 @@ line_passes text readings from walk after held then line l b within is given pas
           ∙ ap (λ m. items_behind [] b.before ++ item (length b.before + 1) m l.statement) b.stands.at
           ∙ sym (items_behind-push [] b.before l);
     }
-
-ended : (lines : List (List ℕ)) (rest : Readings) → lines ≡ [] → AreReadAs lines rest → rest ≡ []
-ended [] [] e read = refl
-ended [] (r ∷ rs) e read = absurd read
-ended (l ∷ ls) rest e read = cc
-
--- behind the last line the round is done
-pub round_ends : (text : List ℕ) (readings : Readings) (from : ℕ) (walk : Walk) (held : List Item) → Behind text readings from walk held → length text < from
-    → (lines : List Line) × (first_round [] readings ≡ Ok lines) × ((w : List ℕ) → names walk.symbols w ≡ known lines w) × (held ≡ items_behind [] lines)
-round_ends text readings from walk held b past =
-    let none : b.lines ≡ [] = ⊎_elim (λ here. absurd (omega arith)) (λ h. h.1) b.left in
-    (b.before, b.round ∙ ap (first_round b.before) (ended b.lines b.rest none b.read), b.stands.known, b.items)

@@ -140,8 +140,3 @@ pub too_long : (text : List ℕ) (from to : ℕ) → longest < length text → I
 too_long text from to many =
     let found = all_read (lines_of text) in
     record { readings = found.0; read = found.1; is = ap (λ b. if b then Err (errors.TooLong longest) else assembled from to found.0) (sym (lt-ltb longest (length text) many)) }
-
-pub too_long_only : (text : List ℕ) (from to : ℕ) → longest < length text → (answer : Result Placed AsmError) → IsAssemblyOf text from to answer
-    → answer ≡ Err (errors.TooLong longest)
-too_long_only text from to many answer is =
-    is.is ∙ ap (λ b. if b then Err (errors.TooLong longest) else assembled from to is.readings) (lt-ltb longest (length text) many)

@@ -41,9 +41,6 @@ module _ (from to at : ℕ) (placed : List (ℕ × ℕ)) where
       inner (Some p) e = cc
       inner None e = cc
 
-  behind : Bytes → Bytes
-  behind r = r >>= λ new. Ok (placed ++ new)
-
   chosen : (b : Bool) (new : List (ℕ × ℕ)) → b ≡ false → ((if b then Err Overlap else Ok new) >>= λ new. Ok (placed ++ new)) ≡ Ok (placed ++ new)
   chosen true new e = cc
   chosen false new e = refl

@@ -1,4 +1,4 @@
--- The ports, by physical address. Those below 1F802000h are the console's (PSX-SPX, Interrupt Control: 1F801070h and 1F801074h; Timers: 1F801100h+N*10h, the mode 4 behind, the target 8).
+-- The ports, by physical address. Those below 1F802000h are the PlayStation's (PSX-SPX, Interrupt Control: 1F801070h and 1F801074h; Timers: 1F801100h+N*10h, the mode 4 behind, the target 8).
 -- The others are this board's own.
 use Rattle.std.specs.Prelude.{ℕ, ◌+◌, ◌*◌}
 

@@ -46,9 +46,6 @@ due-none e es count early = due-no (nat_le e.count count) e es count (grind arit
 pub later-all : (e : Entry) (es : List Entry) (count : ℕ) → count < e.count → later count (e ∷ es) ≡ e ∷ es
 later-all e es count early = later-no (nat_le e.count count) e es count (grind arith)
 
-pub left-first : (entries : List Entry) (count : ℕ) (ports : KeptPorts) (h : History) → StandsFor ports h → Left entries count 0 ports h
-left-first entries count ports h s = record { history = h; stands = s; same = refl }
-
 -- an entry more was delivered
 pub left-more : (entries : List Entry) (count index : ℕ) (e : Entry) (before now : KeptPorts) (h : History) → drop index entries ≡ e ∷ drop (index + 1) entries → e.count ≤ count
     → ((g : History) → StandsFor before g → StandsFor now (arrived g e.what)) → Left entries count index before h → Left entries count (index + 1) now h

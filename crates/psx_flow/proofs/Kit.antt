@@ -1,6 +1,6 @@
 -- The rules by which a routine is proved, and the names that its proof cites.
 pub use Rattle.std.proofs.Common.{◌≡◌, ◌≢◌, ℕ, suc, ◌+◌, ◌-◌, ◌*◌, ◌%◌, ◌^◌, ◌<◌, ◌≤◌, ◌++◌, ◌⊎◌, inl, inr, List, [], ◌∷◌, length, true, false, refl, sym, ap, ◌∙◌, subst, arith, ⊎_elim}
-use Rattle.std.proofs.Common.{below_more, zero}
+use Rattle.std.proofs.Common.{zero}
 pub use Rattle.psx_base.specs.Memory.{Memory, byte, word, put_byte, put_word}
 pub use Rattle.psx_base.specs.Registers.{Registers}
 pub use Rattle.psx_base.specs.Addresses.{place, user}
@@ -46,10 +46,3 @@ module _ (C : Calls) (fair : Fair C) (t : Test) (a : Tree) (at : ℕ) (K : Part)
   -- a loop, where its invariant holds at the head
   pub while : (x : X) (e : Run) → Inv x e → Meets kernel_words C (Loop t a Stop) at (Anew K) G e
   while x e inv = (suc (measure x), most (suc (measure x)) x e (omega arith) inv)
-
-pub below_suc : (i : ℕ) (P : ℕ → Type 0) → ((j : ℕ) → j < i → P j) → P i → (j : ℕ) → j < suc i → P j
-below_suc i P f g = let e : i + 1 ≡ suc i = omega arith in subst (λ n. (j : ℕ) → j < n → P j) e (below_more _ _ f g)
-
--- each sum of the processor is a word
-pub wrapped : (x : ℕ) → x % 2 ^ 32 < 2 ^ 32
-wrapped x = omega arith

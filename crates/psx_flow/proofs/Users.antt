@@ -1,7 +1,7 @@
 -- Sums and tests over the ranges of user memory.
-use Rattle.std.proofs.Common.{◌≡◌, ℕ, ◌+◌, ◌-◌, ◌*◌, ◌<◌, ◌≤◌, ◌%◌, ◌^◌, ◌⊎◌, inl, inr, Bool, true, false, cond, refl, sym, ap, ◌∙◌, subst, arith, ⊎_elim, eq-eqb}
+use Rattle.std.proofs.Common.{◌≡◌, ℕ, ◌+◌, ◌-◌, ◌*◌, ◌<◌, ◌≤◌, ◌%◌, ◌^◌, ◌⊎◌, inl, inr, Bool, true, false, refl, sym, ap, ◌∙◌, arith, ⊎_elim, eq-eqb}
 use Rattle.std.specs.Prelude.{nat_lt, nat_eq, bit_and, ◌&&◌, ◌||◌, if◌then◌else◌}
-use Rattle.std.proofs.lemmas.Bool.{cases_lt, true≢false, false≢true}
+use Rattle.std.proofs.lemmas.Bool.{cases_lt, false≢true}
 use Rattle.psx_base.specs.Addresses.{user, place, top, low, user_main, scratchpad}
 use Rattle.psx_cpu.specs.Words.{truth}
 use Rattle.psx_flow.proofs.Log.{sort, sort_by, is_port, in_user, byte_sort, word_sort, User, Nowhere}
@@ -155,65 +155,3 @@ both_bits false false = refl
 
 pub ranges_word : (a : ℕ) → a < 4294967296 → bit_and (sum_of a) (truth (nat_lt (a * 1073741824 % 4294967296) 1)) ≡ truth (user a && nat_eq (a % 4) 0)
 ranges_word a h = (λ i. bit_and (ranges a h i) (truth (low_bits a i))) ∙ both_bits (user a) (nat_eq (a % 4) 0)
-
--- how many bytes are left in the block of a user address
-abbrev pub left : ℕ → ℕ
-left a = cond (nat_lt a 2097152) (2097152 - a) (cond (nat_lt a 528483328) (528483328 - a) (cond (nat_lt a 2149580800) (2149580800 - a) (cond (nat_lt a 2675966976) (2675966976 - a) (2686451712 - a))))
-
-pub left_most : (a : ℕ) → a < 4294967296 → user a ≡ true → left a ≤ 2031616
-unfolding user
-left_most a h u = grind arith
-
-less_1 : (a : ℕ) → 65536 ≤ a → a < 2097152 → a + 1 < 2097152 → left (wrap (a + 1)) < left a
-less_1 a h k l = grind arith
-
-last_1 : (a : ℕ) → 2097152 ≤ a + 1 → a < 2097152 → user (wrap (a + 1)) ≡ true → ⊥
-unfolding user
-last_1 a h k u = let e : wrap (a + 1) ≡ 2097152 = omega arith in false≢true (subst (λ b. user b ≡ true) e u)
-
-step_1 : (a : ℕ) → 65536 ≤ a → a < 2097152 → user (wrap (a + 1)) ≡ true → left (wrap (a + 1)) < left a
-step_1 a h k v = ⊎_elim (λ l. less_1 a h k l) (λ g. absurd (last_1 a g k v)) (cases_lt (a + 1) 2097152)
-
-less_3 : (a : ℕ) → 528482304 ≤ a → a < 528483328 → a + 1 < 528483328 → left (wrap (a + 1)) < left a
-less_3 a h k l = grind arith
-
-last_3 : (a : ℕ) → 528483328 ≤ a + 1 → a < 528483328 → user (wrap (a + 1)) ≡ true → ⊥
-unfolding user
-last_3 a h k u = let e : wrap (a + 1) ≡ 528483328 = omega arith in false≢true (subst (λ b. user b ≡ true) e u)
-
-step_3 : (a : ℕ) → 528482304 ≤ a → a < 528483328 → user (wrap (a + 1)) ≡ true → left (wrap (a + 1)) < left a
-step_3 a h k v = ⊎_elim (λ l. less_3 a h k l) (λ g. absurd (last_3 a g k v)) (cases_lt (a + 1) 528483328)
-
-less_5 : (a : ℕ) → 2147549184 ≤ a → a < 2149580800 → a + 1 < 2149580800 → left (wrap (a + 1)) < left a
-less_5 a h k l = grind arith
-
-last_5 : (a : ℕ) → 2149580800 ≤ a + 1 → a < 2149580800 → user (wrap (a + 1)) ≡ true → ⊥
-unfolding user
-last_5 a h k u = let e : wrap (a + 1) ≡ 2149580800 = omega arith in false≢true (subst (λ b. user b ≡ true) e u)
-
-step_5 : (a : ℕ) → 2147549184 ≤ a → a < 2149580800 → user (wrap (a + 1)) ≡ true → left (wrap (a + 1)) < left a
-step_5 a h k v = ⊎_elim (λ l. less_5 a h k l) (λ g. absurd (last_5 a g k v)) (cases_lt (a + 1) 2149580800)
-
-less_7 : (a : ℕ) → 2675965952 ≤ a → a < 2675966976 → a + 1 < 2675966976 → left (wrap (a + 1)) < left a
-less_7 a h k l = grind arith
-
-last_7 : (a : ℕ) → 2675966976 ≤ a + 1 → a < 2675966976 → user (wrap (a + 1)) ≡ true → ⊥
-unfolding user
-last_7 a h k u = let e : wrap (a + 1) ≡ 2675966976 = omega arith in false≢true (subst (λ b. user b ≡ true) e u)
-
-step_7 : (a : ℕ) → 2675965952 ≤ a → a < 2675966976 → user (wrap (a + 1)) ≡ true → left (wrap (a + 1)) < left a
-step_7 a h k v = ⊎_elim (λ l. less_7 a h k l) (λ g. absurd (last_7 a g k v)) (cases_lt (a + 1) 2675966976)
-
-less_9 : (a : ℕ) → 2684420096 ≤ a → a < 2686451712 → a + 1 < 2686451712 → left (wrap (a + 1)) < left a
-less_9 a h k l = grind arith
-
-last_9 : (a : ℕ) → 2686451712 ≤ a + 1 → a < 2686451712 → user (wrap (a + 1)) ≡ true → ⊥
-unfolding user
-last_9 a h k u = let e : wrap (a + 1) ≡ 2686451712 = omega arith in false≢true (subst (λ b. user b ≡ true) e u)
-
-step_9 : (a : ℕ) → 2684420096 ≤ a → a < 2686451712 → user (wrap (a + 1)) ≡ true → left (wrap (a + 1)) < left a
-step_9 a h k v = ⊎_elim (λ l. less_9 a h k l) (λ g. absurd (last_9 a g k v)) (cases_lt (a + 1) 2686451712)
-
-pub left_less : (a : ℕ) → a < 4294967296 → user a ≡ true → user (wrap (a + 1)) ≡ true → left (wrap (a + 1)) < left a
-left_less a h u v =
-    ⊎_elim (λ l1. absurd (true≢false (sym u ∙ user_0 a l1))) (λ g1. ⊎_elim (λ l2. step_1 a g1 l2 v) (λ g2. ⊎_elim (λ l3. absurd (true≢false (sym u ∙ user_2 a g2 l3))) (λ g3. ⊎_elim (λ l4. step_3 a g3 l4 v) (λ g4. ⊎_elim (λ l5. absurd (true≢false (sym u ∙ user_4 a g4 l5))) (λ g5. ⊎_elim (λ l6. step_5 a g5 l6 v) (λ g6. ⊎_elim (λ l7. absurd (true≢false (sym u ∙ user_6 a g6 l7))) (λ g7. ⊎_elim (λ l8. step_7 a g7 l8 v) (λ g8. ⊎_elim (λ l9. absurd (true≢false (sym u ∙ user_8 a g8 l9))) (λ g9. ⊎_elim (λ l10. step_9 a g9 l10 v) (λ g10. absurd (true≢false (sym u ∙ user_10 a g10 h))) (cases_lt a 2686451712)) (cases_lt a 2684420096)) (cases_lt a 2675966976)) (cases_lt a 2675965952)) (cases_lt a 2149580800)) (cases_lt a 2147549184)) (cases_lt a 528483328)) (cases_lt a 528482304)) (cases_lt a 2097152)) (cases_lt a 65536)

@@ -38,7 +38,7 @@ Goal = Run → Type 0
 abbrev pub Calls : Type 1
 Calls = ℕ → ℕ → Goal → Goal
 
--- at most n turns of a loop, each begun with its test and ended with the branch back, and then what follows it
+-- fewer than n turns of a loop, each begun with its test and ended with the branch back, and then what follows it
 abbrev pub Turns : ℕ → Test → (Goal → Goal) → Goal → Goal
 Turns zero t body K s = ⊥
 Turns (suc n) t body K s = (TestHolds (opposite t) s.regs → K (passing s)) × (TestHolds t s.regs → body (λ m. Turns n t body K (branching m)) (passing s))

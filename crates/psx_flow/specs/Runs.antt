@@ -26,7 +26,7 @@ IsJump (JumpsTo a e) = Unit {0}
 abbrev pub Then : (Run → Ending → Type 0) → (Run → Ending → Type 0) → Run → Ending → Type 0
 Then A B s e = ((m : Run) × A s (Falls m) × B m e) ⊎ (IsJump e × A s e)
 
--- n turns at most, and what follows the loop
+-- fewer than n turns, and what follows the loop
 abbrev pub TurnsOf : ℕ → Test → (Run → Ending → Type 0) → (Run → Ending → Type 0) → Run → Ending → Type 0
 TurnsOf zero t A B s e = ⊥
 TurnsOf (suc n) t A B s e = (TestHolds (opposite t) s.regs × B (passing s) e) ⊎ (TestHolds t s.regs × Then A (λ m. TurnsOf n t A B (branching m)) (passing s) e)

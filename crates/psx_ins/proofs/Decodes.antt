@@ -187,9 +187,3 @@ pub no_word : (w : ℕ) → instruction_of w ≡ None → (i : Ins) → IsTrue (
 no_word w none i fits is =
     let e : Some i ≡ None = sym (decodes i fits) ∙ ap instruction_of is ∙ none in
     cc
-
--- no two instructions have one word
-pub one_word : (i j : Ins) → IsTrue (fits_fields i) → IsTrue (fits_fields j) → word i ≡ word j → i ≡ j
-one_word i j p q e =
-    let s : Some i ≡ Some j = sym (decodes i p) ∙ ap instruction_of e ∙ decodes j q in
-    cc

@@ -11,15 +11,6 @@ use Rattle.psx_ports.proofs.Pending.{stat-later, stat-stays}
 
 -- ---- a later count
 
-least-zero : (k : KeptCounters) → least_next k ≤ k.zero.next
-least-zero k = omega arith
-
-least-one : (k : KeptCounters) → least_next k ≤ k.one.next
-least-one k = omega arith
-
-least-two : (k : KeptCounters) → least_next k ≤ k.two.next
-least-two k = omega arith
-
 counter-quiet : (t : ℕ) (k : KeptCounter) (events : List Event) (now n : ℕ) → CounterStands t k events now → n < k.next → happens (raises t (acts_of t events)) now n ≡ false
 counter-quiet t k events now n s h =
     subst (λ t'. happens (raises t' (acts_of t events)) now n ≡ false) s.number (nothing-raised k (acts_of t events) now n s.follows s.ahead h)
