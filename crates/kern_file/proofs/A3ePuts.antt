@@ -37,12 +37,12 @@ record Head (s : KernelState) (a n stop k : ℕ) (rest : Stay) (e : Run) : Type 
   r26 : e.regs.r26 ≡ 0x1F800000
   cursor : Cursor a n stop k e.regs.r8
 
-module _ (s : KernelState) (a n stop : ℕ) (span : Span a n stop 1) where
+module _ (s : KernelState) (a n stop : ℕ) (span : Span a n stop 1) (most : ℕ) (enough : 64 ≤ most) where
   -- where a turn comes back to
   abbrev again : ℕ → Stay → List Access → Stay → Goal
-  again m rest told r g = (g.steps ≤ 64) × (64 ≤ 128 * earned rest told) × Repeats own most_steps PUTS_LOOP (tree LOOP_NODES) m r g
+  again m rest told r g = (g.steps ≤ 64) × (64 ≤ 128 * earned rest told) × Repeats own most PUTS_LOOP (tree LOOP_NODES) m r g
 
-  repeats : (m k : ℕ) (rest : Stay) (e : Run) → k < m → Head s a n stop k rest e → Repeats own most_steps PUTS_LOOP (tree LOOP_NODES) m rest e
+  repeats : (m k : ℕ) (rest : Stay) (e : Run) → k < m → Head s a n stop k rest e → Repeats own most PUTS_LOOP (tree LOOP_NODES) m rest e
   repeats zero k rest e lt h = absurd (omega arith)
   repeats (suc m) k rest e lt h =
       let C : Calls = calls kernel_words (own ++ tested_there) in
@@ -52,7 +52,7 @@ module _ (s : KernelState) (a n stop : ℕ) (span : Span a n stop 1) where
       let on : Stay = write_text (h.fuel - 1) s (following x) in
       let next : ℕ → Stay = λ b. if nat_eq b 0 then answered s 0 else Write (b % 2 ^ 8) on in (
         64,
-        omega arith,
+        enough,
         start C know.fair (tree LOOP_NODES) PUTS_LOOP (λ _. ⊥) (λ to f. Passes PUTS_LOOP (again m rest) rest 64 to f) (begun e.regs e.cop0 e.bytes) (
           λ eq.
               let b = done_bad a n stop 1 k x span h.cursor (eq ∙ h.r11) (λ z. absurd (omega (arith, z))) in
@@ -81,7 +81,7 @@ module _ (s : KernelState) (a n stop : ℕ) (span : Span a n stop 1) where
 
   -- from where the loop is reached
   starts : (rest : Stay) (e : Run) → n ≤ longest → rest ≡ write_text longest s e.regs.r8 → Holds s e.bytes → e.regs.r8 ≡ a → e.regs.r11 ≡ stop → e.regs.r26 ≡ 0x1F800000
-      → (m : ℕ) × Repeats own most_steps PUTS_LOOP (tree LOOP_NODES) m rest e
+      → (m : ℕ) × Repeats own most PUTS_LOOP (tree LOOP_NODES) m rest e
   starts rest e some is holds r8 r11 r26 =
       (suc n, repeats (suc n) n rest e (omega arith) (record { fuel = longest; some = some; is = is; holds = holds; r11 = r11; r26 = r26; cursor = starting a n stop 1 e.regs.r8 span r8 }))
 
@@ -98,12 +98,12 @@ serves s d z m h =
     let n : ℕ = room a + 1 in
     let sp = span_some a n 1 small (λ e. absurd (omega (arith, e))) (omega arith) in
     let few : n ≤ longest = room_short a in
-    let first : List Access → Stay → Goal = λ told rest g. (g.steps ≤ most_steps) × ((j : ℕ) × Repeats own most_steps PUTS_LOOP (tree LOOP_NODES) j rest g) in
+    let first : List Access → Stay → Goal = λ told rest g. (g.steps ≤ most_steps) × ((j : ℕ) × Repeats own (most_steps - g.steps) PUTS_LOOP (tree LOOP_NODES) j rest g) in
     start C know.fair (tree NODES) PUTS (λ _. ⊥) (λ to e. Passes PUTS_LOOP first (puts s) most_steps to e) (begun (called_with (registers_of s) d) z m) (
       λ none. passed PUTS_LOOP first (puts s) most_steps _ _ refl refl (answers_now s most_steps _ (puts s) (null a (answered s 0) (write_text longest s a) none) h.holds (omega arith)),
       λ some.
           know.room _ _ _ _ _ _ _ small (λ x y p up. enters PUTS_LOOP first (puts s) most_steps _ refl refl (
             omega arith,
-            starts s a n ((a + room a) % 2 ^ 32) sp (puts s) _ few (not_null a (answered s 0) (write_text longest s a) some) h.holds refl refl refl,
+            starts s a n ((a + room a) % 2 ^ 32) sp _ (omega arith) (puts s) _ few (not_null a (answered s 0) (write_text longest s a) some) h.holds refl refl refl,
           )),
     )

@@ -85,7 +85,7 @@ module _ (m : Memory) (code : HoldsRom m rom) where
   by_crate [] h = tt
   by_crate (p ∷ ps) h =
       let one = λ (s : IsServed m most_steps (call p.0) p.1). within (73 + most_steps) p.0 p.1 (omega arith) (by_listing rom m (holds_entry m code) code most_steps (call p.0) p.1 s) in
-      let two = λ (s : IsServedBy m most_steps (call p.0) p.1). within (73 + most_steps + most_steps) p.0 p.1 (omega arith) (by_loop rom m (holds_entry m code) code most_steps (call p.0) p.1 s) in
+      let two = λ (s : IsServedBy m most_steps (call p.0) p.1). within (73 + most_steps) p.0 p.1 (omega arith) (by_loop rom m (holds_entry m code) code most_steps (call p.0) p.1 s) in
       (⊎_elim one two h.0, by_crate ps h.1)
 
   all_serve : EachCrate ServingAt all_calls

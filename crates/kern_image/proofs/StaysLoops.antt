@@ -66,7 +66,7 @@ module _ (rom : List ℕ) (m : Memory) (words : HoldsEntry m) (code : HoldsRom m
     abbrev Made : ℕ → ℕ → Run → Type 0
     Made rest to e = Follows stay e.seen × Runs rom (after stay e.seen) (left stay rest e.seen) (at_core rom (given HALT_A a e.seen) (given HALT_B b e.seen) (given HALT_C c e.seen) (kernel_core (state_at e to)))
 
-    module _ (own : List (ℕ × Tree)) (there : ArePlaced kernel_words m own) (T : Tree) (at : ℕ) (placed : IsPlaced kernel_words m at T) (rest most : ℕ) (G : ℕ → Goal) (low : (to : ℕ) (e : Run) → G to e → e.steps ≤ most) (made : (to : ℕ) (e : Run) → Keeps kernel_words m e → G to e → Made rest to e) where
+    module _ (own : List (ℕ × Tree)) (there : ArePlaced kernel_words m own) (T : Tree) (at : ℕ) (placed : IsPlaced kernel_words m at T) (rest most : ℕ) (G : ℕ → Goal) (low : (to : ℕ) (e : Run) → G to e → e.steps ≤ most) (made : (to : ℕ) (e : Run) → Keeps kernel_words m e → G to e → (n : ℕ) → most ≤ n + e.steps → Made (rest + n) to e) where
       abbrev P : ℕ → Aim
       P n k q = Shows rom stay a b c (left stay (rest + n) q) k q
 
@@ -79,11 +79,10 @@ module _ (rom : List ℕ) (m : Memory) (words : HoldsEntry m) (code : HoldsRom m
             subst (λ j. Shows rom stay a b c j k q) e (shows_paid rom stay a b c (left stay (rest + n)) (pays (rest + n)) k q h);
       }
 
-      jump : (to : ℕ) (e : Run) → Keeps kernel_words m e → G to e → (n : ℕ) → P n (kernel_core (state_at e to)) e.seen
-      jump to e ke g n =
-          let r = made to e ke g in
-          let x = left_is stay rest e.seen in
-          going_shows rom stay a b c (left stay (rest + n) e.seen) (kernel_core (state_at e to)) e.seen (r.0, runs_least rom (after stay e.seen) _ _ (at_core rom (given HALT_A a e.seen) (given HALT_B b e.seen) (given HALT_C c e.seen) (kernel_core (state_at e to))) (least (rest + n) (left stay rest e.seen) e.seen (omega (arith, x))) r.1)
+      jump : (to : ℕ) (e : Run) → Keeps kernel_words m e → G to e → (n : ℕ) → most ≤ n + e.steps → P n (kernel_core (state_at e to)) e.seen
+      jump to e ke g n few =
+          let r = made to e ke g n few in
+          going_shows rom stay a b c (left stay (rest + n) e.seen) (kernel_core (state_at e to)) e.seen (r.0, r.1)
 
       pub part : (first : Run) → Keeps kernel_words m first → first.seen ≡ [] → first.steps ≡ 0 → Meets kernel_words (calls kernel_words (own ++ tested_there)) T at (λ _. ⊥) G first → Runs rom stay (rest + most) (at_core rom a b c (kernel_core (state_at first at)))
       part first keeps none start h =
@@ -92,7 +91,7 @@ module _ (rom : List ℕ) (m : Memory) (words : HoldsEntry m) (code : HoldsRom m
             low = λ e x. absurd x;
             low_jump = low;
             here = λ e ke x. absurd x;
-            jump = λ to e ke g n few. jump to e ke g n;
+            jump = λ to e ke g n few. jump to e ke g n few;
           }) h most (omega arith) in
           (subst (λ q. Shows rom stay a b c (left stay (rest + most) q) k q) none w).1
 
@@ -139,25 +138,27 @@ module _ (rom : List ℕ) (m : Memory) (words : HoldsEntry m) (code : HoldsRom m
         subst (λ j. Runs rom stay j (at_core rom a b c (kernel_core (state_at e loop)))) all
         (part a b c stay own there T loop placed rest few (λ to f. Passes loop Again stay few to f)
         (λ to f p. split (nat_eq to loop) _ _ _ (λ v x. x.0) (λ v x. low_ends (after stay p.told) few to f x) p.ends)
-        (λ to f kf p. split (nat_eq to loop) _ _ _
+        (λ to f kf p more enough. split (nat_eq to loop) _ _ _
         (λ v x.
         let r = repeats_run n (after stay p.told) (after_ends _ _ stay p.told valid) f kf x.2 (given HALT_A a f.seen) (given HALT_B b f.seen) (given HALT_C c f.seen) in
         let paid = x.1 in
-        by_rest a b c stay valid rest some p.told to f kf p.ports p.follows (73 + most) (omega (arith, all, paid))
+        by_rest a b c stay valid (rest + more) (omega (arith, some)) p.told to f kf p.ports p.follows (73 + most) (omega (arith, all, paid))
         (subst (λ j. Runs rom (after stay p.told) (73 + most) (at_core rom (given HALT_A a f.seen) (given HALT_B b f.seen) (given HALT_C c f.seen) (kernel_core (state_at f j)))) (sym (eqb-true to loop v)) r))
-        (λ v x. by_door a b c stay valid rest some p.told to f kf p.ports p.follows few x) p.ends)
+        (λ v x. by_door a b c stay valid (rest + more) (omega (arith, some)) p.told to f kf p.ports p.follows few x) p.ends)
         (begun e.regs e.cop0 e.bytes) (record { bytes = ke.bytes; masked = ke.masked }) refl refl h.2)
 
-  pub by_loop : (most : ℕ) (stay : KernelState → Stay) (at : ℕ) → IsServedBy m most stay at → Serving rom m words code (73 + most + most) stay at
+  pub by_loop : (most : ℕ) (stay : KernelState → Stay) (at : ℕ) → IsServedBy m most stay at → Serving rom m words code (73 + most) stay at
   by_loop most stay at s a b c t regs z valid h off =
       let S : Stay = stay t in
-      let R : ℕ = 73 + most in
-      part a b c S s.own s.own_placed s.listing at s.placed R most (λ to e. Passes s.loop (λ told rest g. (g.steps ≤ most) × ((n : ℕ) × Repeats s.own most s.loop s.turns n rest g)) S most to e)
+      let First : List Access → Stay → Goal = λ told rest g. (g.steps ≤ most) × ((n : ℕ) × Repeats s.own (most - g.steps) s.loop s.turns n rest g) in
+      part a b c S s.own s.own_placed s.listing at s.placed 73 most (λ to e. Passes s.loop First S most to e)
       (λ to f p. split (nat_eq to s.loop) _ _ _ (λ v x. x.0) (λ v x. low_ends (after S p.told) most to f x) p.ends)
-      (λ to f kf p. split (nat_eq to s.loop) _ _ _
+      (λ to f kf p more enough. split (nat_eq to s.loop) _ _ _
       (λ v x.
-      let r = repeats_run s.own s.own_placed most s.loop s.turns s.turns_placed x.1.0 (after S p.told) (after_ends _ _ S p.told valid) f kf x.1.1 (given HALT_A a f.seen) (given HALT_B b f.seen) (given HALT_C c f.seen) in
-      by_rest a b c S valid R (omega arith) p.told to f kf p.ports p.follows R (omega arith)
-      (subst (λ j. Runs rom (after S p.told) R (at_core rom (given HALT_A a f.seen) (given HALT_B b f.seen) (given HALT_C c f.seen) (kernel_core (state_at f j)))) (sym (eqb-true to s.loop v)) r))
-      (λ v x. by_door a b c S valid R (omega arith) p.told to f kf p.ports p.follows most x) p.ends)
+      let few : ℕ = most - f.steps in
+      let r = repeats_run s.own s.own_placed few s.loop s.turns s.turns_placed x.1.0 (after S p.told) (after_ends _ _ S p.told valid) f kf x.1.1 (given HALT_A a f.seen) (given HALT_B b f.seen) (given HALT_C c f.seen) in
+      let low = x.0 in
+      by_rest a b c S valid (73 + more) (omega arith) p.told to f kf p.ports p.follows (73 + few) (omega (arith, enough, low))
+      (subst (λ j. Runs rom (after S p.told) (73 + few) (at_core rom (given HALT_A a f.seen) (given HALT_B b f.seen) (given HALT_C c f.seen) (kernel_core (state_at f j)))) (sym (eqb-true to s.loop v)) r))
+      (λ v x. by_door a b c S valid (73 + more) (omega arith) p.told to f kf p.ports p.follows most x) p.ends)
       (begun (called_with (registers_of t) regs) z m) (record { bytes = λ x e. refl; masked = off }) refl refl (s.serves t regs z m h)

@@ -33,7 +33,7 @@ works stay most e q h few = record { told = []; ports = q; follows = tt; ends = 
 
 -- where no task is left
 pub work_is : (s : KernelState) (c : ThreadContext) (ts : List Task) (value ra : ℕ) (rest : Stay) → IsWork s c ts value ra rest → rest ≡ takes_up s c
-work_is s c [] value ra rest h = h
+work_is s c [] value ra rest h = h.1
 work_is s c (t ∷ ts) value ra rest h = absurd h
 
 pub works_end : (rest : Stay) (e : Run) (h : Works rest e) → rest ≡ takes_up h.state h.context

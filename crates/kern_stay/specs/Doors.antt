@@ -116,7 +116,7 @@ called_with a d = record d { r4 = a.r4; r5 = a.r5; r6 = a.r6; r7 = a.r7; r29 = a
 abbrev pub begun : Registers → Cop0 → Memory → Run
 begun c z m = record { regs = c; cop0 = z; bytes = m; seen = []; passed = 0; steps = 0 }
 
--- the steps of a call, with 128 more for each unit that is touched
+-- the steps of a call up to a door, with 128 more for each unit that is touched where no port is accessed
 abbrev pub most_steps : ℕ
 most_steps = 8192
 

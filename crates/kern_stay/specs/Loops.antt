@@ -1,5 +1,5 @@
 -- Routines with a loop that accesses ports. The loop is a listing of its own, which jumps to itself: each turn pays by its accesses for the steps that it makes.
-use Rattle.std.specs.Prelude.{◌≡◌, ℕ, zero, suc, ◌+◌, ◌*◌, ◌≤◌, cond, nat_eq, List, [], ◌∷◌, ◌++◌}
+use Rattle.std.specs.Prelude.{◌≡◌, ℕ, zero, suc, ◌+◌, ◌-◌, ◌*◌, ◌≤◌, cond, nat_eq, List, [], ◌∷◌, ◌++◌}
 use Rattle.psx_base.specs.Memory.{Memory}
 use Rattle.psx_base.specs.Registers.{Registers}
 use Rattle.psx_base.specs.KernelState.{KernelState}
@@ -47,11 +47,11 @@ Repeats own most loop T (suc n) stay e =
     (few : ℕ) × (few ≤ most)
     × Meets kernel_words (calls kernel_words (own ++ tested_there)) T loop (λ _. ⊥) (λ to f. Passes loop (λ told rest g. (g.steps ≤ few) × (few ≤ 128 * earned stay told) × Repeats own most loop T n rest g) stay few to f) (begun e.regs e.cop0 e.bytes)
 
--- a listing at an address serves a call, with a loop that it jumps to
+-- A listing at an address serves a call, with a loop that it jumps to. What it makes before the loop and what a turn makes are at most so many steps together.
 abbrev pub ServesBy : (own : List (ℕ × Tree)) → (most : ℕ) → (KernelState → Stay) → ℕ → Tree → ℕ → Tree → Type 0
 ServesBy own most stay at T loop L =
     (s : KernelState) (d : Registers) (z : Cop0) (m : Memory) → Arrives s m
-    → Meets kernel_words (calls kernel_words (own ++ tested_there)) T at (λ _. ⊥) (λ to e. Passes loop (λ told rest g. (g.steps ≤ most) × ((n : ℕ) × Repeats own most loop L n rest g)) (stay s) most to e) (begun (called_with (registers_of s) d) z m)
+    → Meets kernel_words (calls kernel_words (own ++ tested_there)) T at (λ _. ⊥) (λ to e. Passes loop (λ told rest g. (g.steps ≤ most) × ((n : ℕ) × Repeats own (most - g.steps) loop L n rest g)) (stay s) most to e) (begun (called_with (registers_of s) d) z m)
 
 -- a call is served by two listings that stand at their addresses, and so do those of its own range that they call
 pub record IsServedBy (m : Memory) (most : ℕ) (stay : KernelState → Stay) (at : ℕ) : Type 0 where

@@ -56,16 +56,6 @@ impl Model for Board {
     ghost invariant = { λ b. IsSound (record { core = core_of b.cpu b.ram; devices = b.devices; taken = b.devices.count; stopped = b.stopped }) };
 }
 
-// The physical address, or 2^29 where there is none.
-fn place(at: u32) -> u32
-    ensures { result ≡ Addresses.place at }
-{
-    match Addr(at).physical() {
-        Some(physical) => physical,
-        None => 0x2000_0000,
-    }
-}
-
 // Copies bytes to user memory.
 #[tactic(auto, using(crate::proofs::Ranges::user_mapped, crate::proofs::Ranges::user_writable), unfolding(psx_base::specs::Memory::put_bytes))]
 fn copy(ram: &mut Ram, at: u32, bytes: &[u8])
@@ -73,7 +63,7 @@ fn copy(ram: &mut Ram, at: u32, bytes: &[u8])
     ensures { ram.new ≡ put_bytes ram.old (Addresses.place at) bytes.now }
 {
     if !bytes.is_empty() {
-        ram.load(place(at), bytes);
+        ram.load(Addr(at).place(), bytes);
     }
 }
 
@@ -84,7 +74,7 @@ fn clear(ram: &mut Ram, at: u32, len: u32)
     ensures { ram.new ≡ put_bytes ram.old (Addresses.place at) (replicate len 0) }
 {
     if len != 0 {
-        ram.fill(place(at), len);
+        ram.fill(Addr(at).place(), len);
     }
 }
 
