@@ -204,7 +204,6 @@ sr-word : (v : ℕ) → IsWord (sr_kept v)
 sr-word v = let e = and_le_r v 0x0041FF3F in omega (arith, e)
 
 module _ (x : State) (bus : Bus) (f : StateFits x) (w : IsWord bus.value) where
-
   r : (n : ℕ) → IsWord (register x.context.regs n)
   r = f.context.regs.general
 

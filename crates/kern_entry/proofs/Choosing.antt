@@ -10,7 +10,7 @@ use Rattle.psx_cpu.specs.Exceptions.{cause_of}
 use Rattle.kern_entry.specs.declared.places.TheConstants.{CAUSES, CALL_A, CALL_B, CALL_C, SYSCALLS, EXCEPTION, DONE, BACK}
 use Rattle.kern_entry.specs.declared.save.TheConstants.{CAUSES_NODES}
 use Rattle.kern_entry.specs.EntryWords.{tree}
-use Rattle.kern_entry.proofs.WorkArea.{Entered, entered_on}
+use Rattle.kern_entry.proofs.WorkArea.{AreaEntered, entered_on}
 
 -- where an entrance goes
 abbrev pub arrival : Entrance → ℕ
@@ -74,10 +74,10 @@ no_gate_by : (epc : ℕ) → is_mirrored epc ≡ true → (epc * 2 ^ 3 % 2 ^ 32 
 no_gate_by epc m a b c d e =
     ap gate_at (mirrored_place epc m) ∙ no_gate (epc % 2 ^ 29) (λ h. a (shifted epc 0xA0 h)) (λ h. b (shifted epc 0xB0 h)) (λ h. c (shifted epc 0xC0 h)) (λ h. d (shifted epc 0xD0 h)) (λ h. e (shifted epc 0xE0 h))
 
-pub causes_meets : (c : Registers) (code : ℕ) (slot : Bool) (z : Cop0) (on : Bool) (m : Memory) (p : List Access) (most more : ℕ) (s : Run) → Entered c z on m p most s → z.cause ≡ cause_of code slot → code < 32 → (code ≡ 8 → slot ≡ false → is_mirrored z.epc ≡ true)
-    → most + 38 ≤ more → Meets kernel_words (calls kernel_words []) (tree CAUSES_NODES) CAUSES (λ _. ⊥) (λ to e. (to ≡ arrival (entrance code slot z.epc)) × Entered c z on m p more e) s
+pub causes_meets : (c : Registers) (code : ℕ) (slot : Bool) (z : Cop0) (on : Bool) (m : Memory) (p : List Access) (most more : ℕ) (s : Run) → AreaEntered c z on m p most s → z.cause ≡ cause_of code slot → code < 32 → (code ≡ 8 → slot ≡ false → is_mirrored z.epc ≡ true)
+    → most + 38 ≤ more → Meets kernel_words (calls kernel_words []) (tree CAUSES_NODES) CAUSES (λ _. ⊥) (λ to e. (to ≡ arrival (entrance code slot z.epc)) × AreaEntered c z on m p more e) s
 causes_meets c code slot z on m p most more s h cause small mirror few =
-    let G : ℕ → Run → Type 0 = λ to e. (to ≡ arrival (entrance code slot z.epc)) × Entered c z on m p more e in
+    let G : ℕ → Run → Type 0 = λ to e. (to ≡ arrival (entrance code slot z.epc)) × AreaEntered c z on m p more e in
     let reads : (line : Bool) → s.cop0.cause + (if line then 2 ^ 10 else 0) ≡ cause_with code slot line = λ line. ap (λ x. x.cause + (if line then 2 ^ 10 else 0)) h.cop0 ∙ ap (λ x. x + (if line then 2 ^ 10 else 0)) cause in
     let coded : (line : Bool) → (s.cop0.cause + (if line then 2 ^ 10 else 0)) * 2 ^ 25 % 2 ^ 32 / 2 ^ 27 ≡ code = λ line. ap (λ x. x * 2 ^ 25 % 2 ^ 32 / 2 ^ 27) (reads line) ∙ code_is code slot line small in
     let on_to = entered_on c z on m p most more s h in

@@ -15,7 +15,7 @@ use Rattle.kern_entry.specs.declared.calls.TheConstants.{CALL_A_NODES, CALL_B_NO
 use Rattle.kern_entry.specs.EntryWords.{tree}
 use Rattle.kern_entry.specs.Tables.{table_word, destination, AllThere, TableAt}
 use Rattle.kern_stay.proofs.Standing.{code_place}
-use Rattle.kern_entry.proofs.WorkArea.{Entered, entered_on}
+use Rattle.kern_entry.proofs.WorkArea.{AreaEntered, entered_on}
 
 -- no entry, and an entry
 pub none_there : (at : CallId → ℕ) → AllThere at → (o : Option CallId) (v : ℕ) → v ≡ table_word at o → v ≡ 0 → UNSERVED ≡ destination at o
@@ -69,11 +69,11 @@ too_large n count h = grind arith
 -- the listing of a table comes to the number's routine, with the table's number in r10
 pub record Called (at : CallId → ℕ) (table : Table) (number : ℕ) (c : Registers) (z : Cop0) (on : Bool) (m : Memory) (p : List Access) (most to : ℕ) (e : Run) : Type 0 where
   pub to_is : to ≡ destination at (served_call table c.r9)
-  pub entered : Entered c z on m p most e
+  pub entered : AreaEntered c z on m p most e
   pub table_is : e.regs.r10 ≡ number
 
-module _ (go : CallId → ℕ) (there : AllThere go) (c : Registers) (z : Cop0) (on : Bool) (m : Memory) (p : List Access) (most more : ℕ) (s : Run) (h : Entered c z on m p most s) (few : most + 20 ≤ more) where
-  on_to : (d : Registers) (q : List Access) (passed n : ℕ) → d.r2 ≡ s.regs.r2 → d.r4 ≡ s.regs.r4 → d.r9 ≡ s.regs.r9 → d.r31 ≡ s.regs.r31 → (d.r5 ≡ s.regs.r5) × (d.r6 ≡ s.regs.r6) × (d.r7 ≡ s.regs.r7) × (d.r29 ≡ s.regs.r29) → ports q ≡ ports s.seen → n ≤ more → Entered c z on m p more (record { regs = d; cop0 = s.cop0; bytes = s.bytes; seen = q; passed = passed; steps = n })
+module _ (go : CallId → ℕ) (there : AllThere go) (c : Registers) (z : Cop0) (on : Bool) (m : Memory) (p : List Access) (most more : ℕ) (s : Run) (h : AreaEntered c z on m p most s) (few : most + 20 ≤ more) where
+  on_to : (d : Registers) (q : List Access) (passed n : ℕ) → d.r2 ≡ s.regs.r2 → d.r4 ≡ s.regs.r4 → d.r9 ≡ s.regs.r9 → d.r31 ≡ s.regs.r31 → (d.r5 ≡ s.regs.r5) × (d.r6 ≡ s.regs.r6) × (d.r7 ≡ s.regs.r7) × (d.r29 ≡ s.regs.r29) → ports q ≡ ports s.seen → n ≤ more → AreaEntered c z on m p more (record { regs = d; cop0 = s.cop0; bytes = s.bytes; seen = q; passed = passed; steps = n })
   on_to = entered_on c z on m p most more s h
 
   -- the number is the program's r9

@@ -14,7 +14,7 @@ use Rattle.kern_entry.specs.declared.stops.TheConstants.{UNSERVED_NODES, EXCEPTI
 use Rattle.kern_entry.specs.declared.sys.TheConstants.{SYSCALLS_NODES}
 use Rattle.kern_entry.specs.EntryWords.{tree}
 use Rattle.kern_entry.specs.Made.{Spared}
-use Rattle.kern_entry.proofs.WorkArea.{held, AreaHolds, Entered, holds_on, applied_spared, spared_then, area_put, area_sr, area_r31}
+use Rattle.kern_entry.proofs.WorkArea.{held, AreaHolds, AreaEntered, holds_on, applied_spared, spared_then, area_put, area_sr, area_r31}
 use Rattle.kern_entry.proofs.Choosing.{code_is}
 
 -- the last access writes a code to the halt port, behind these to ports
@@ -38,7 +38,7 @@ exit_meets c pc on m p most more v s h e few =
     start (calls kernel_words []) (fair kernel_words []) (tree EXIT_NODES) EXIT (λ e. Stops 1 (PortWrite HALT_A v ∷ p) m more e) (λ _ _. ⊥) s
     (record { rest = _; seen = refl; told = (λ i. PortWrite HALT_A (e i) ∷ h.ports i); spared = h.spared; within = omega arith })
 
-module _ (c : Registers) (z : Cop0) (on : Bool) (m : Memory) (p : List Access) (most more : ℕ) (s : Run) (h : Entered c z on m p most s) (few : most + 30 ≤ more) where
+module _ (c : Registers) (z : Cop0) (on : Bool) (m : Memory) (p : List Access) (most more : ℕ) (s : Run) (h : AreaEntered c z on m p most s) (few : most + 30 ≤ more) where
   pub done_meets : Meets kernel_words (calls kernel_words []) (tree DONE_NODES) DONE (λ _. ⊥) (λ to e. Exits c.r2 c z.epc on m p more to e) s
   done_meets =
       let within = h.holds.within in
@@ -111,7 +111,7 @@ sr_bit : (on : Bool) → bit_and (saved_sr_of on / 2 ^ 2) 1 ≡ was_on on
 sr_bit true = refl
 sr_bit false = refl
 
-module _ (c : Registers) (z : Cop0) (on : Bool) (m : Memory) (p : List Access) (most more : ℕ) (s : Run) (h : Entered c z on m p most s) (few : most + 30 ≤ more) where
+module _ (c : Registers) (z : Cop0) (on : Bool) (m : Memory) (p : List Access) (most more : ℕ) (s : Run) (h : AreaEntered c z on m p most s) (few : most + 30 ≤ more) where
   abbrev SysMeets : ℕ → Type 0
   SysMeets n = Meets kernel_words (calls kernel_words []) (tree SYSCALLS_NODES) SYSCALLS (λ e. SysStops n z.epc m p more e) (λ to e. SysGoes n c z.epc on m p more to e) s
 

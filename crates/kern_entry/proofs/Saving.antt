@@ -9,7 +9,7 @@ use Rattle.kern_layout.specs.Contexts.{saved, saved_sr_of}
 use Rattle.kern_entry.specs.declared.places.TheConstants.{VECTOR, SAVE, CAUSES}
 use Rattle.kern_entry.specs.declared.save.TheConstants.{VECTOR_NODES, SAVE_NODES}
 use Rattle.kern_entry.specs.EntryWords.{tree}
-use Rattle.kern_entry.proofs.WorkArea.{held, Entered, applied_spared, area_after, stored}
+use Rattle.kern_entry.proofs.WorkArea.{held, AreaEntered, applied_spared, area_after, stored}
 
 -- at the vector nothing is done yet
 pub record Arrived (c : Registers) (z : Cop0) (m : Memory) (most : ℕ) (e : Run) : Type 0 where
@@ -28,10 +28,10 @@ vector_meets s most seen few =
 abbrev saves : Registers → Cop0 → Fields
 saves c z = with_field (saved (held c z.epc true)) 0x94 z.sr
 
-pub save_meets : (s : Run) (on : Bool) (most : ℕ) → s.cop0.sr ≡ saved_sr_of on → s.seen ≡ [] → s.steps + 40 ≤ most → Meets kernel_words (calls kernel_words []) (tree SAVE_NODES) SAVE (λ _. ⊥) (λ to e. (to ≡ CAUSES) × Entered s.regs s.cop0 on s.bytes [] most e) s
+pub save_meets : (s : Run) (on : Bool) (most : ℕ) → s.cop0.sr ≡ saved_sr_of on → s.seen ≡ [] → s.steps + 40 ≤ most → Meets kernel_words (calls kernel_words []) (tree SAVE_NODES) SAVE (λ _. ⊥) (λ to e. (to ≡ CAUSES) × AreaEntered s.regs s.cop0 on s.bytes [] most e) s
 save_meets s on most sr seen few =
     let log : List Entry = stored (saves s.regs s.cop0) [] in
-    start (calls kernel_words []) (fair kernel_words []) (tree SAVE_NODES) SAVE (λ _. ⊥) (λ to e. (to ≡ CAUSES) × Entered s.regs s.cop0 on s.bytes [] most e) s (
+    start (calls kernel_words []) (fair kernel_words []) (tree SAVE_NODES) SAVE (λ _. ⊥) (λ to e. (to ≡ CAUSES) × AreaEntered s.regs s.cop0 on s.bytes [] most e) s (
       refl,
       record {
         holds = record {

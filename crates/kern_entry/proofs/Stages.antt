@@ -25,7 +25,7 @@ use Rattle.kern_entry.specs.EntryWords.{tree}
 use Rattle.kern_entry.specs.Within.{Aim, Within}
 use Rattle.kern_entry.specs.Made.{after, Follows, given, IsBack, Leaving, Returned, Halted, Spared, Made}
 use Rattle.kern_entry.proofs.Walk.{walk_placed, within_backs, within_here}
-use Rattle.kern_entry.proofs.WorkArea.{AreaHolds, Entered}
+use Rattle.kern_entry.proofs.WorkArea.{AreaHolds, AreaEntered}
 use Rattle.kern_entry.proofs.Routines.{Stops, Exits, exit_meets, done_meets, back_meets, unserved_meets, exception_meets, bad_pointer_meets, bad_thread_meets, deep_meets}
 use Rattle.kern_entry.proofs.Leaving.{Resumed, leave_meets, behind_meets, work_meets, resume_meets}
 use Rattle.kern_entry.proofs.Returning.{back_to, Back, return_from}
@@ -141,7 +141,7 @@ module _ (m : Memory) (all : AllPlaced m) (stay : Stay) (Z : Aim) (aimed : (k : 
   pub exit_shown : (c : Registers) (pc : ℕ) (on : Bool) (p : List Access) (v : ℕ) (s : Run) → Keep s → AreaHolds c pc on m p 130 s → s.regs.r4 ≡ v → HaltsBy stay 1 (PortWrite HALT_A v ∷ p) → Show s EXIT
   exit_shown c pc on p v s ks h e stop = stops_here (tree EXIT_NODES) EXIT 1 (PortWrite HALT_A v ∷ p) s all.exit ks stop (exit_meets c pc on m p 130 200 v s h e (omega arith))
 
-  module _ (c : Registers) (z : Cop0) (on : Bool) (p : List Access) (s : Run) (ks : Keep s) (h : Entered c z on m p 100 s) where
+  module _ (c : Registers) (z : Cop0) (on : Bool) (p : List Access) (s : Run) (ks : Keep s) (h : AreaEntered c z on m p 100 s) where
     pub done_shown : HaltsBy stay 1 (PortWrite HALT_A c.r2 ∷ p) → Show s DONE
     done_shown stop =
         walks m Z (tree DONE_NODES) DONE (λ _. ⊥) (λ to e. Exits c.r2 c z.epc on m p 130 to e) s all.done ks (λ e x. absurd x) (λ a e g. low e g.holds) (λ e ke x. absurd x)

@@ -43,7 +43,7 @@ use Rattle.kern_entry.specs.Within.{Aim, Within}
 use Rattle.kern_entry.specs.Made.{Made}
 use Rattle.kern_entry.specs.Tables.{destination, TableAt, TablesRead}
 use Rattle.kern_entry.specs.EntryLaws.{KeepsRest, AtRoutine, Begins, StaysBegin, kernel_at}
-use Rattle.kern_entry.proofs.WorkArea.{held, AreaHolds, Entered}
+use Rattle.kern_entry.proofs.WorkArea.{held, AreaHolds, AreaEntered}
 use Rattle.kern_entry.proofs.Saving.{Arrived, vector_meets, save_meets}
 use Rattle.kern_entry.proofs.Choosing.{arrival, causes_meets}
 use Rattle.kern_entry.proofs.Lookup.{Called, call_a_meets, call_b_meets, call_c_meets}
@@ -79,7 +79,7 @@ table_kept go m e T at count ke low t = λ n lt. word_kept m e (at + 4 * n) ke (
 further : (c : Registers) (pc : ℕ) (on : Bool) (m : Memory) (p : List Access) (most more : ℕ) (e : Run) → most ≤ more → AreaHolds c pc on m p most e → AreaHolds c pc on m p more e
 further c pc on m p most more e le h = record { area = h.area; spared = h.spared; ports = h.ports; within = omega (arith, h.within) }
 
-further_in : (c : Registers) (z : Cop0) (on : Bool) (m : Memory) (p : List Access) (most more : ℕ) (e : Run) → most ≤ more → Entered c z on m p most e → Entered c z on m p more e
+further_in : (c : Registers) (z : Cop0) (on : Bool) (m : Memory) (p : List Access) (most more : ℕ) (e : Run) → most ≤ more → AreaEntered c z on m p most e → AreaEntered c z on m p more e
 further_in c z on m p most more e le h = record { holds = further c z.epc on m p most more e le h.holds; r2 = h.r2; r4 = h.r4; r9 = h.r9; r31 = h.r31; args = h.args; cop0 = h.cop0 }
 
 -- the gates' calls are in no slot
@@ -121,7 +121,7 @@ module _ (go : CallId → ℕ) (m : Memory) (all : AllPlaced m) (tables : Tables
   mine : (stay : Stay) → KeepsRest s stay → (k : Core) (q : List Access) → Made m stay k q → Z stay k q
   mine stay own k q h = inl (own, h)
 
-  trap_shown : (e : Run) → Keeps kernel_words m e → Entered c z on m [] 100 e → Show (by_entrance ByTrap code t) e EXCEPTION
+  trap_shown : (e : Run) → Keeps kernel_words m e → AreaEntered c z on m [] 100 e → Show (by_entrance ByTrap code t) e EXCEPTION
   trap_shown e ke h = exception_shown m all (by_entrance ByTrap code t) (Z (by_entrance ByTrap code t)) (mine (by_entrance ByTrap code t) refl) c z on [] e ke h code s.running.context.in_slot refl small (record {
     stop = Exception code z.epc;
     memory = s.memory;
@@ -131,7 +131,7 @@ module _ (go : CallId → ℕ) (m : Memory) (all : AllPlaced m) (tables : Tables
   })
 
   -- a call by its row: its routine is arrived at
-  arrives : s.running.context.in_slot ≡ false → (id : CallId) (e : Run) → Keeps kernel_words m e → Entered c z on m [] 100 e → AtRoutine go m s (call id t) (kernel_core (state_at e (go id))) e.seen
+  arrives : s.running.context.in_slot ≡ false → (id : CallId) (e : Run) → Keeps kernel_words m e → AreaEntered c z on m [] 100 e → AtRoutine go m s (call id t) (kernel_core (state_at e (go id))) e.seen
   arrives out id e ke h = record {
     id = id;
     is = refl;
@@ -145,7 +145,7 @@ module _ (go : CallId → ℕ) (m : Memory) (all : AllPlaced m) (tables : Tables
     quiet = h.holds.ports;
   }
 
-  called : s.running.context.in_slot ≡ false → (T : Table) (o : Option CallId) (e : Run) → Keeps kernel_words m e → Entered c z on m [] 100 e → e.regs.r10 ≡ table_number T → Show (by_row T o t) e (destination go o)
+  called : s.running.context.in_slot ≡ false → (T : Table) (o : Option CallId) (e : Run) → Keeps kernel_words m e → AreaEntered c z on m [] 100 e → e.regs.r10 ≡ table_number T → Show (by_row T o t) e (destination go o)
   called out T None e ke h r = unserved_shown m all (by_row T None t) (Z (by_row T None t)) (mine (by_row T None t) refl) c z on [] e ke h (table_number T) r (record {
     stop = Unserved T c.r9 c.r31;
     memory = s.memory;
@@ -162,7 +162,7 @@ module _ (go : CallId → ℕ) (m : Memory) (all : AllPlaced m) (tables : Tables
       walks m (Z stay) tr at (λ _. ⊥) (λ to x. Called go T (table_number T) c z on m [] 100 to x) e pl ke (λ x b. absurd b) (λ a x g. low x g.entered) (λ x kx b. absurd b)
       (λ a x kx g. subst (λ n. Show stay x n) (sym g.to_is) (called out T (served_call T c.r9) x kx g.entered g.table_is)) me
     where
-      low : (x : Run) → Entered c z on m [] 100 x → x.steps ≤ 200
+      low : (x : Run) → AreaEntered c z on m [] 100 x → x.steps ≤ 200
       low x h = omega (arith, h.holds.within)
 
   -- a SYSCALL by its number
@@ -179,7 +179,7 @@ module _ (go : CallId → ℕ) (m : Memory) (all : AllPlaced m) (tables : Tables
       low : (x : Run) → AreaHolds d z.epc off m [] 130 x → x.steps ≤ 200
       low x h = omega (arith, h.within)
 
-  sys_shown : (n : ℕ) (e : Run) → Keeps kernel_words m e → Entered c z on m [] 100 e → e.regs.r4 ≡ n → Show (syscall n t) e SYSCALLS
+  sys_shown : (n : ℕ) (e : Run) → Keeps kernel_words m e → AreaEntered c z on m [] 100 e → e.regs.r4 ≡ n → Show (syscall n t) e SYSCALLS
   sys_shown zero e ke h q =
       sys_goes zero c on e ke refl (record { state = with_running t (taken t.running.context behind); follows = tt; is = refl; context = refl; interrupts = refl }) (λ x b. b) (λ to x g. g) (sys_meets c z on m [] 100 130 e h (omega arith) 0 q)
   sys_shown (suc zero) e ke h q =
@@ -197,7 +197,7 @@ module _ (go : CallId → ℕ) (m : Memory) (all : AllPlaced m) (tables : Tables
       }) (sys_meets c z on m [] 100 200 e h (omega arith) number q)
 
   -- an entry by its entrance
-  arrived : (by : Entrance) → entrance code s.running.context.in_slot z.epc ≡ by → (e : Run) → Keeps kernel_words m e → Entered c z on m [] 80 e → Show (by_entrance by code t) e (arrival by)
+  arrived : (by : Entrance) → entrance code s.running.context.in_slot z.epc ≡ by → (e : Run) → Keeps kernel_words m e → AreaEntered c z on m [] 80 e → Show (by_entrance by code t) e (arrival by)
   arrived ByA is e ke h = table_shown (no_slot code s.running.context.in_slot z.epc ByA is refl) A (tree CALL_A_NODES) CALL_A e all.call_a ke (call_a_meets go tables.there c z on m [] 80 100 e h (omega arith) (table_kept go m e A 0x200 0xC0 ke (omega arith) tables.a))
   arrived ByB is e ke h = table_shown (no_slot code s.running.context.in_slot z.epc ByB is refl) B (tree CALL_B_NODES) CALL_B e all.call_b ke (call_b_meets go tables.there c z on m [] 80 100 e h (omega arith) (table_kept go m e B 0x874 0x5F ke (omega arith) tables.b))
   arrived ByC is e ke h = table_shown (no_slot code s.running.context.in_slot z.epc ByC is refl) C (tree CALL_C_NODES) CALL_C e all.call_c ke (call_c_meets go tables.there c z on m [] 80 100 e h (omega arith) (table_kept go m e C 0x674 0x20 ke (omega arith) tables.c))
@@ -214,27 +214,27 @@ module _ (go : CallId → ℕ) (m : Memory) (all : AllPlaced m) (tables : Tables
   abbrev whole : Stay
   whole = by_entrance own code t
 
-  causes_shown : (code ≡ 8 → s.running.context.in_slot ≡ false → is_mirrored z.epc ≡ true) → (e : Run) → Keeps kernel_words m e → Entered c z on m [] 42 e → Show whole e CAUSES
+  causes_shown : (code ≡ 8 → s.running.context.in_slot ≡ false → is_mirrored z.epc ≡ true) → (e : Run) → Keeps kernel_words m e → AreaEntered c z on m [] 42 e → Show whole e CAUSES
   causes_shown mirror e ke h =
-      walks m (Z whole) (tree CAUSES_NODES) CAUSES (λ _. ⊥) (λ to x. (to ≡ arrival own) × Entered c z on m [] 80 x) e all.causes ke (λ x b. absurd b) (λ a x g. low x g.1) (λ x kx b. absurd b)
+      walks m (Z whole) (tree CAUSES_NODES) CAUSES (λ _. ⊥) (λ to x. (to ≡ arrival own) × AreaEntered c z on m [] 80 x) e all.causes ke (λ x b. absurd b) (λ a x g. low x g.1) (λ x kx b. absurd b)
       (λ a x kx g. subst (λ n. Show whole x n) (sym g.0) (arrived own refl x kx g.1)) (causes_meets c code s.running.context.in_slot z on m [] 42 80 e h refl small mirror (omega arith))
     where
-      low : (x : Run) → Entered c z on m [] 80 x → x.steps ≤ 200
+      low : (x : Run) → AreaEntered c z on m [] 80 x → x.steps ≤ 200
       low x g = omega (arith, g.holds.within)
 
   save_shown : z.sr ≡ saved_sr_of on → (code ≡ 8 → s.running.context.in_slot ≡ false → is_mirrored z.epc ≡ true) → (e : Run) → Keeps kernel_words m e → Arrived c z m 2 e → Show whole e SAVE
   save_shown as_saved mirror e ke h =
-      walks m (Z whole) (tree SAVE_NODES) SAVE (λ _. ⊥) (λ to x. (to ≡ CAUSES) × Entered e.regs e.cop0 on e.bytes [] 42 x) e all.save ke (λ x b. absurd b) (λ a x g. low x g.1) (λ x kx b. absurd b)
+      walks m (Z whole) (tree SAVE_NODES) SAVE (λ _. ⊥) (λ to x. (to ≡ CAUSES) × AreaEntered e.regs e.cop0 on e.bytes [] 42 x) e all.save ke (λ x b. absurd b) (λ a x g. low x g.1) (λ x kx b. absurd b)
       (λ a x kx g. subst (λ n. Show whole x n) (sym g.0) (causes_shown mirror x kx (same x g.1))) (save_meets e on 42 (ap (λ y. y.sr) h.cop0 ∙ as_saved) h.seen (omega (arith, h.within)))
     where
-      low : (x : Run) → Entered e.regs e.cop0 on e.bytes [] 42 x → x.steps ≤ 200
+      low : (x : Run) → AreaEntered e.regs e.cop0 on e.bytes [] 42 x → x.steps ≤ 200
       low x g = omega (arith, g.holds.within)
 
-      same : (x : Run) → Entered e.regs e.cop0 on e.bytes [] 42 x → Entered c z on m [] 42 x
+      same : (x : Run) → AreaEntered e.regs e.cop0 on e.bytes [] 42 x → AreaEntered c z on m [] 42 x
       same x g =
-          let P : Registers → Type 0 = λ y. Entered y e.cop0 on e.bytes [] 42 x in
-          let Q : Cop0 → Type 0 = λ y. Entered c y on e.bytes [] 42 x in
-          let R : Memory → Type 0 = λ y. Entered c z on y [] 42 x in
+          let P : Registers → Type 0 = λ y. AreaEntered y e.cop0 on e.bytes [] 42 x in
+          let Q : Cop0 → Type 0 = λ y. AreaEntered c y on e.bytes [] 42 x in
+          let R : Memory → Type 0 = λ y. AreaEntered c z on y [] 42 x in
           subst R h.bytes (subst Q h.cop0 (subst P h.regs g))
 
   -- at the vector

@@ -30,7 +30,7 @@ pub record AreaHolds (c : Registers) (pc : ℕ) (on : Bool) (m : Memory) (p : Li
   pub within : e.steps ≤ most
 
 -- The same, while the registers that a call is told by are the program's, and coprocessor 0 as at the entry.
-pub record Entered (c : Registers) (z : Cop0) (on : Bool) (m : Memory) (p : List Access) (most : ℕ) (e : Run) : Type 0 where
+pub record AreaEntered (c : Registers) (z : Cop0) (on : Bool) (m : Memory) (p : List Access) (most : ℕ) (e : Run) : Type 0 where
   pub holds : AreaHolds c z.epc on m p most e
   pub r2 : e.regs.r2 ≡ c.r2
   pub r4 : e.regs.r4 ≡ c.r4
@@ -109,8 +109,8 @@ pub holds_on : (c : Registers) (pc : ℕ) (on : Bool) (m : Memory) (p : List Acc
     → AreaHolds c pc on m p more (record { regs = d; cop0 = z; bytes = s.bytes; seen = q; passed = passed; steps = n })
 holds_on c pc on m p most more s h d z q passed n e few = record { area = h.area; spared = h.spared; ports = e ∙ h.ports; within = few }
 
-pub entered_on : (c : Registers) (z : Cop0) (on : Bool) (m : Memory) (p : List Access) (most more : ℕ) (s : Run) → Entered c z on m p most s → (d : Registers) (q : List Access) (passed n : ℕ) → d.r2 ≡ s.regs.r2 → d.r4 ≡ s.regs.r4 → d.r9 ≡ s.regs.r9 → d.r31 ≡ s.regs.r31 → (d.r5 ≡ s.regs.r5) × (d.r6 ≡ s.regs.r6) × (d.r7 ≡ s.regs.r7) × (d.r29 ≡ s.regs.r29) → ports q ≡ ports s.seen → n ≤ more
-    → Entered c z on m p more (record { regs = d; cop0 = s.cop0; bytes = s.bytes; seen = q; passed = passed; steps = n })
+pub entered_on : (c : Registers) (z : Cop0) (on : Bool) (m : Memory) (p : List Access) (most more : ℕ) (s : Run) → AreaEntered c z on m p most s → (d : Registers) (q : List Access) (passed n : ℕ) → d.r2 ≡ s.regs.r2 → d.r4 ≡ s.regs.r4 → d.r9 ≡ s.regs.r9 → d.r31 ≡ s.regs.r31 → (d.r5 ≡ s.regs.r5) × (d.r6 ≡ s.regs.r6) × (d.r7 ≡ s.regs.r7) × (d.r29 ≡ s.regs.r29) → ports q ≡ ports s.seen → n ≤ more
+    → AreaEntered c z on m p more (record { regs = d; cop0 = s.cop0; bytes = s.bytes; seen = q; passed = passed; steps = n })
 entered_on c z on m p most more s h d q passed n e2 e4 e9 e31 a e few = record {
   holds = holds_on c z.epc on m p most more s h.holds d s.cop0 q passed n e few;
   r2 = e2 ∙ h.r2;

@@ -19,7 +19,7 @@ use Rattle.kern_layout.proofs.Moved.{reads_switched}
 use Rattle.abs_kernel.specs.Answered.{registers_of, with_answer}
 use Rattle.abs_kernel.specs.Switching.{caller, keeps, context_of, switched}
 use Rattle.kern_stay.specs.Copy.{WordsCopied}
-use Rattle.kern_stay.specs.Switch.{settle_area, Kept, Switches}
+use Rattle.kern_stay.specs.Switch.{settle_area, SlotKept, Switches}
 use Rattle.kern_stay.specs.Doors.{Holds}
 use Rattle.kern_stay.proofs.Holding.{user_high}
 
@@ -69,7 +69,7 @@ copy_stays m n from to c = record {
   bytes = λ a o. c.bytes a (⊎_elim (λ l. inl l) (λ g. inr (omega (arith, g))) o);
 }
 
-kept_stays : (t : Thread) (m n : Memory) (to : ℕ) → Kept t m n to → Stays m n to
+kept_stays : (t : Thread) (m n : Memory) (to : ℕ) → SlotKept t m n to → Stays m n to
 kept_stays Free m n to e = record { words = λ a al o. ap (λ x. word x a) e; bytes = λ a o. ap (λ x. byte x a) e }
 kept_stays (Used u) m n to c = copy_stays m n 0xEB0C to c
 
@@ -82,7 +82,7 @@ module _ (s : KernelState) (valid : Valid s) (m : Memory) (holds : Holds s m) (n
   abbrev ready : Memory
   ready = settle_area m 1 (registers_of s).r31
 
-  module _ (kept_in : Memory) (kept : Kept (thread s s.current) ready kept_in at) (filled : Memory) (fills : WordsCopied kept_in filled (thread_at n + 0xC) 0xEB0C 35) where
+  module _ (kept_in : Memory) (kept : SlotKept (thread s s.current) ready kept_in at) (filled : Memory) (fills : WordsCopied kept_in filled (thread_at n + 0xC) 0xEB0C 35) where
     abbrev last : Memory
     last = put_word filled 0xEA00 n
 
@@ -123,7 +123,7 @@ module _ (s : KernelState) (valid : Valid s) (m : Memory) (holds : Holds s m) (n
     status = same (at + 0) (omega arith) (omega (arith, small)) (λ e. omega (arith, e, small)) (inl (omega arith))
 
     -- the running slot's block
-    slot : (t : Thread) → Kept t ready kept_in at → Block (word m) at (thread_fields s.current s.current t) → Block (word last) at (thread_fields n s.current (keeps (caller s) t))
+    slot : (t : Thread) → SlotKept t ready kept_in at → Block (word m) at (thread_fields s.current s.current t) → Block (word last) at (thread_fields n s.current (keeps (caller s) t))
     slot Free e old = (status ∙ old.0, tt)
     slot (Used u) c old =
         let there : Block (word kept_in) at (saved (caller s)) = context_of_words ready kept_in 0xEB00 at (caller s) c ready_area in
@@ -158,7 +158,7 @@ module _ (s : KernelState) (valid : Valid s) (m : Memory) (holds : Holds s m) (n
         same_slot : n ≡ s.current → Block (word filled) 0xEB00 (saved taken_up)
         same_slot e =
             let here : thread s s.current ≡ Used other = ap (thread s) (sym e) ∙ used in
-            let there : Block (word kept_in) at (saved (caller s)) = context_of_words ready kept_in 0xEB00 at (caller s) (subst (λ t. Kept t ready kept_in at) here kept) ready_area in
+            let there : Block (word kept_in) at (saved (caller s)) = context_of_words ready kept_in 0xEB00 at (caller s) (subst (λ t. SlotKept t ready kept_in at) here kept) ready_area in
             back (caller s) (ap (λ x. slice_index_or (slice_set s.threads s.current now) x Free) e ∙ get_or-set_same s.threads s.current now Free valid.current ∙ ap (keeps (caller s)) here)
             (subst (λ x. Block (word kept_in) (thread_at x) (saved (caller s))) (sym e) there)
 

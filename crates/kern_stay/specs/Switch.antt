@@ -14,13 +14,13 @@ abbrev pub settle_area : Memory → (value at : ℕ) → Memory
 settle_area m value at = put_word (put_word m 0xEB10 value) 0xEB88 at
 
 -- the area's context is copied to a slot that is used
-abbrev pub Kept : Thread → (m n : Memory) → ℕ → Type 0
-Kept Free m n to = n ≡ m
-Kept (Used u) m n to = WordsCopied m n 0xEB0C (to + 0xC) 35
+abbrev pub SlotKept : Thread → (m n : Memory) → ℕ → Type 0
+SlotKept Free m n to = n ≡ m
+SlotKept (Used u) m n to = WordsCopied m n 0xEB0C (to + 0xC) 35
 
 -- the area settled and kept in the running slot, then the other slot's context in the area, and its number stored
 abbrev pub Switches : Type 0
 Switches =
     (s : KernelState) → Valid s → (m : Memory) → Holds s m → (n : ℕ) → n < length s.threads → (other : ThreadContext) → thread s n ≡ Used other
-    → (kept : Memory) → Kept (thread s s.current) (settle_area m 1 (registers_of s).r31) kept (thread_at s.current) → (filled : Memory) → WordsCopied kept filled (thread_at n + 0xC) 0xEB0C 35
+    → (kept : Memory) → SlotKept (thread s s.current) (settle_area m 1 (registers_of s).r31) kept (thread_at s.current) → (filled : Memory) → WordsCopied kept filled (thread_at n + 0xC) 0xEB0C 35
     → Holds (switched s n) (put_word filled 0xEA00 n)

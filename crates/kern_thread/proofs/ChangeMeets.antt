@@ -11,7 +11,7 @@ use Rattle.abs_kernel.specs.Answered.{registers_of, with_running}
 use Rattle.abs_kernel.specs.Switching.{switched}
 use Rattle.kern_stay.specs.Shared.{tree, tested_there}
 use Rattle.kern_stay.specs.Copy.{WordsCopied}
-use Rattle.kern_stay.specs.Switch.{settle_area, Kept}
+use Rattle.kern_stay.specs.Switch.{settle_area, SlotKept}
 use Rattle.kern_stay.specs.Doors.{Holds, Arrives, Through, called_with, begun, most_steps}
 use Rattle.kern_stay.proofs.Copying.{KnowsCopy, knows_copy, data_place, data_sort}
 use Rattle.kern_stay.proofs.Switching.{made, rests, rest_taken}
@@ -33,11 +33,11 @@ number_is : (r n : ℕ) → r ≡ 0xFF000000 + n → n < 16 → (r + 2 ^ 32 - 0x
 number_is r n e h = omega arith
 
 -- the first copy is made where the slot's status is that of a used one
-kept_used : (w : ℕ → ℕ) (m n : Memory) (at c : ℕ) (t : Thread) → Block w at (thread_fields c c t) → w at ≡ 0x4000 → WordsCopied m n 0xEB0C (at + 0xC) 35 → Kept t m n at
+kept_used : (w : ℕ → ℕ) (m n : Memory) (at c : ℕ) (t : Thread) → Block w at (thread_fields c c t) → w at ≡ 0x4000 → WordsCopied m n 0xEB0C (at + 0xC) 35 → SlotKept t m n at
 kept_used w m n at c Free b e h = let z : at + 0 ≡ at = omega arith in let f : w at ≡ 0x1000 = sym (ap w z) ∙ b.0 in absurd (omega (arith, e, f))
 kept_used w m n at c (Used u) b e h = h
 
-kept_free : (w : ℕ → ℕ) (m : Memory) (at c : ℕ) (t : Thread) → Block w at (thread_fields c c t) → (w at ≡ 0x4000 → ⊥) → Kept t m m at
+kept_free : (w : ℕ → ℕ) (m : Memory) (at c : ℕ) (t : Thread) → Block w at (thread_fields c c t) → (w at ≡ 0x4000 → ⊥) → SlotKept t m m at
 kept_free w m at c Free b ne = refl
 kept_free w m at c (Used u) b ne = let z : at + 0 ≡ at = omega arith in absurd (ne (sym (ap w z) ∙ b.0))
 
@@ -45,7 +45,7 @@ module _ (s : KernelState) (m : Memory) (h : Arrives s m) (n : ℕ) (names : Nam
   abbrev ready : Memory
   ready = settle_area m 1 (registers_of s).r31
 
-  done : (kept : Memory) → Kept (thread s s.current) ready kept (thread_at s.current) → (filled : Memory) → WordsCopied kept filled (thread_at n + 0xC) 0xEB0C 35 → (e : Run) → e.bytes ≡ put_word filled 0xEA00 n → ports e.seen ≡ [] → e.steps ≤ 8192
+  done : (kept : Memory) → SlotKept (thread s s.current) ready kept (thread_at s.current) → (filled : Memory) → WordsCopied kept filled (thread_at n + 0xC) 0xEB0C 35 → (e : Run) → e.bytes ≡ put_word filled 0xEA00 n → ports e.seen ≡ [] → e.steps ≤ 8192
       → Through (Return (switched s n)) most_steps WAIT e
   done kept k filled f e bytes quiet few =
       let r = rests s h.valid m h.holds n names.few names.other names.used kept k filled f in

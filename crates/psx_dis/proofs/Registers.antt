@@ -33,4 +33,3 @@ signed_reads imm small = ⊎_elim
     (λ low. ap signed_16 (cond-true (nat_lt imm (2 ^ 15)) (pos imm) (neg_ℤ (pos (2 ^ 16 - imm))) (lt-ltb imm (2 ^ 15) low)) ∙ below_reads (2 ^ 15) imm low)
     (λ high. ap signed_16 (cond-false (nat_lt imm (2 ^ 15)) (pos imm) (neg_ℤ (pos (2 ^ 16 - imm))) (le-ltb imm (2 ^ 15) high)) ∙ minus_16 (2 ^ 16 - imm) (omega arith) (omega arith) ∙ ap Some (omega arith))
     (cases_lt imm (2 ^ 15))
-

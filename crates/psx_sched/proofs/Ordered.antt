@@ -24,4 +24,3 @@ IsSchedule-push xs e s room l p = record {
 pub IsSchedule-perhaps : (b : Bool) (xs ys : List Entry) (e : Entry) → ys ≡ (if b then xs ++ e ∷ [] else xs) → IsSchedule xs → length xs < 65536 → last_count 0 xs ≤ e.count → IsPlausible e → IsSchedule ys
 IsSchedule-perhaps true xs ys e is s room l p = subst (λ (z : List Entry). IsSchedule z) (sym is) (IsSchedule-push xs e s room l p)
 IsSchedule-perhaps false xs ys e is s room l p = subst (λ (z : List Entry). IsSchedule z) (sym is) s
-
