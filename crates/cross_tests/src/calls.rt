@@ -1,4 +1,6 @@
 //! The calls on memory, texts and random numbers, each made by a program on the image.
+ghost use Rattle.std.specs.Prelude.{◌<◌, length};
+
 use crate::shows;
 use psx_base::{MemoryHost, Out};
 use psxk_run::psxk;
@@ -20,13 +22,10 @@ fn ran<R: AllocGlobal + Abort>(rt: &R, text: &[u8]) -> MemoryHost {
 }
 
 // Whether bytes stand somewhere in others.
-fn stands_in(bytes: &[u8], part: &[u8]) -> bool {
-    for window in bytes.windows(part.len()) {
-        if window == part {
-            return true;
-        }
-    }
-    false
+fn stands_in(bytes: &[u8], part: &[u8]) -> bool
+    requires { 0 < length part.now }
+{
+    bytes.windows(part.len()).any(|window| window == part)
 }
 
 #[test]
@@ -204,7 +203,8 @@ start:
         host.sent(Out::Trace)
             .ends_with(b" BadPointer 1F800400 80010030\n")
     );
-    assert!(rt; &host.sent(Out::Ram)[0x1F_FFFE..0x20_0000] == b"AB".as_slice());
+    let end = host.sent(Out::Ram).get(0x1F_FFFE..0x20_0000);
+    assert!(rt; end.expect(&rt, "main memory") == b"AB".as_slice());
 }
 
 #[test]
@@ -253,7 +253,8 @@ start:
         host.sent(Out::Trace)
             .ends_with(b" BadPointer 80200000 80010020\n")
     );
-    assert!(rt; &host.sent(Out::Ram)[0x1F_FFFD..0x20_0000] == b"\0AA".as_slice());
+    let end = host.sent(Out::Ram).get(0x1F_FFFD..0x20_0000);
+    assert!(rt; end.expect(&rt, "main memory") == b"\0AA".as_slice());
 }
 
 #[test]
@@ -385,7 +386,6 @@ start:
 0000010B 0000010C 0000010D 0000010E 0000010F 00000110 00000111 00000112 00000113 00000114 00000115 00000116 00000117 00000118 00000119 \
 80010088 00000000 0000011C 0000011D 0000011E 80010088\n";
     assert!(rt; stands_in(host.sent(Out::Trace), shown));
-    assert!(rt;
-        &host.sent(Out::Ram)[0x20_0000..0x20_0007] == b"\x05\x05\x05\x05\x05\x05\0".as_slice()
-    );
+    let scratchpad = host.sent(Out::Ram).get(0x20_0000..0x20_0007);
+    assert!(rt; scratchpad.expect(&rt, "scratchpad") == b"\x05\x05\x05\x05\x05\x05\0".as_slice());
 }
