@@ -1,4 +1,5 @@
-//! Tests that cross crates: the programs of examples/, each assembled and run by the top call over hosts in memory, and the kernel's words, printed and assembled again. There is nothing else here.
+//! Tests that cross crates, each by the top call over hosts in memory: whole runs, the calls, the programs of examples/, words and files that are refused, and the kernel's words, printed and assembled again.
+//! There is nothing else here.
 #![tactic(auto)]
 
 #[cfg(test)]

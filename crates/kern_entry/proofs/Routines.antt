@@ -2,7 +2,7 @@
 use Rattle.psx_flow.proofs.Kit.{◌≡◌, ℕ, suc, ◌+◌, ◌*◌, ◌%◌, ◌^◌, ◌<◌, ◌≤◌, true, false, refl, ap, ◌∙◌, subst, arith, Memory, word, Registers, Cop0, Run, Access, PortWrite, Meets, calls, kernel_words, fair, start, put_word, Sym, counted, ended}
 use Rattle.std.proofs.Common.{Bool, zero, List, [], ◌∷◌, ◌/◌}
 use Rattle.std.specs.Prelude.{if◌then◌else◌, bit_and}
-use Rattle.psx_base.specs.declared.ports.TheConstants.{CONSOLE_DATA, HALT, HALT_A, HALT_B, HALT_C}
+use Rattle.psx_base.specs.declared.ports.TheConstants.{HALT, HALT_A, HALT_B, HALT_C}
 use Rattle.psx_cpu.specs.Exceptions.{cause_of}
 use Rattle.psx_flow.specs.Told.{ports}
 use Rattle.psx_flow.proofs.Log.{KernelWord}

@@ -1,6 +1,6 @@
 //! The work area and the ports, as the listings reach them: from a register that holds the upper half of an address, by the lower half.
 use kern_layout::places::{SAVED_HI, SAVED_LO, SAVED_PC, SAVED_REGISTERS, SAVED_SR, WORK_AREA};
-use psx_base::ports::{CONSOLE_DATA, HALT, HALT_A, HALT_B, HALT_C};
+use psx_base::ports::{HALT, HALT_A, HALT_B, HALT_C};
 
 /// The upper half of the work area's address in the cached segment, 1 more since the lower half counts as negative.
 pub const AREA: u16 = 0x8001;
@@ -25,9 +25,6 @@ pub const SR: u16 = (WORK_AREA + SAVED_SR) as u16;
 
 /// The upper half of the ports' addresses.
 pub const PORTS: u16 = (HALT / 0x1_0000) as u16;
-
-/// The lower half of the console's data port.
-pub const PORT_CONSOLE: u16 = (CONSOLE_DATA % 0x1_0000) as u16;
 
 /// The lower half of the halt's first word.
 pub const PORT_A: u16 = (HALT_A % 0x1_0000) as u16;

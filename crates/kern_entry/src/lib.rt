@@ -1,5 +1,5 @@
-//! The entry into the kernel and the way back: the exception vector, the gates, what saves a context and takes it up, the choice of the routine, and the first calls.
-//! All of it is listings at the public addresses of places.rt, but for the two words that leave the kernel.
+//! The entry into the kernel and the way back: the exception vector, the gates, what saves a context and takes it up, the choice of the routine, and exit.
+//! All of it is listings at the addresses of places.rt, but for the two words that leave the kernel.
 #![tactic(auto)]
 
 pub mod area;

@@ -33,7 +33,7 @@ pub fn fixed_words()
     ensures hold { FixedHolds }
 {}
 
-/// In memory that holds the ROM, the words of the kernel's entry stand where they are placed.
+/// In memory that holds the ROM, the words of the kernel's code and tables stand where they are placed.
 pub fn pieces_stand()
     ensures { PiecesStand }
 {}

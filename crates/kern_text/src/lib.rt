@@ -1,4 +1,4 @@
-//! The calls on texts of user memory. Each routine's listing stands in a file of its own, with its theorem.
+//! The calls on texts of user memory and on characters. Each routine's listing stands in a file of its own, with its theorem.
 #![tactic(auto)]
 
 pub mod a1b_strlen;

@@ -1,5 +1,6 @@
 //! Words of the block behind `place`, encoded by hand from the R3000A manual's instruction formats.
 use crate::a1b_strlen::strlen;
+use crate::a25_toupper::toupper;
 use crate::place;
 use crate::placing::{apart, text_serves};
 use kern_layout::KernelBlock;
@@ -19,12 +20,16 @@ fn places_the_calls(rt: HostRuntime) -> Result<(), Fail> {
     assert_eq!(rt; block.word(0x4C2C), 0x910C_0000);
     // The count of user memory: lui t2, 8001h.
     assert_eq!(rt; block.word(0x4C80), 0x3C0A_8001);
+    // toupper: sll v0, a0, 24; sltiu t0, t0, 26.
+    assert_eq!(rt; block.word(0x4D40), 0x0004_1600);
+    assert_eq!(rt; block.word(0x4D4C), 0x2D08_001A);
     Ok(())
 }
 
 #[test]
 fn lends_listings(rt: HostRuntime) {
     assert_eq!(rt; strlen().len(), 17);
+    assert_eq!(rt; toupper().len(), 8);
 }
 
 #[test]

@@ -1,5 +1,5 @@
 //! Texts of bytes: their parts, and the numbers that they have in decimal and hexadecimal digits.
-//! Each crate that reads or writes a text stands on it.
+//! The crates of schedules, traces and assembly language and the top call read and write with it.
 //! A reading gives some number where none stands: who reads compares with what would have been written.
 #![tactic(auto)]
 
