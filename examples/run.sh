@@ -1,5 +1,5 @@
 #!/usr/bin/env bash
-# Makes and runs each example, and compares what it writes and where it stops with NAME.out and NAME.end.
+# Makes and runs each example, with the schedule NAME.sched where there is one, and compares what it writes and where it stops with NAME.out and NAME.end.
 # The program is crates/psxk/out/psxk, or the one that PSXK names. The examples in C are made where there is a compiler for them.
 # Words on the command line are the names of the examples to be run, as `hello` or `c/hello`; without any all are.
 set -uo pipefail
@@ -46,13 +46,15 @@ expect() {
 
 # Makes and runs one example in a folder of its own.
 check() {
-    local end status stop
+    local end schedule status stop
     mkdir -p "$room/$name"
     cd "$room/$name" || differs "it has no folder"
     make_program
     end=$(cat "$examples/$name.end") || differs "it has no expected stop"
     expect "$end"
-    "$psxk" run program.exe - "$budget" >found
+    schedule=-
+    [ -f "$examples/$name.sched" ] && schedule=$examples/$name.sched
+    "$psxk" run program.exe "$schedule" "$budget" >found
     status=$?
     stop=$(tail -n 1 psxk.trace | cut -d ' ' -f 1,3-)
     [ "$stop" = "S $end" ] || differs "the last line of its trace is $(tail -n 1 psxk.trace)"

@@ -1,6 +1,16 @@
 pub mod Search
+pub mod OfCalls
 pub mod Moved
+pub mod Filed
+pub mod Lined
+pub mod Threaded
+pub mod EndsThreads
 pub mod Entries
+pub mod Ending
+pub mod EndsMemory
+pub mod EndsJumps
+pub mod EndsText
+pub mod EndsFiles
 pub mod Ends
 pub mod Unserved
 pub mod Lists

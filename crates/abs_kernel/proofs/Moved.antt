@@ -1,22 +1,22 @@
--- A valid state with another memory and another running context that fits is valid.
+-- A valid state with another memory, another state of random numbers, another place of strtok and another running context that fits is valid.
 use Rattle.std.proofs.Common.{ℕ}
 use Rattle.std.specs.Prelude.{Option, Some, None}
 use Rattle.psx_base.specs.Memory.{Memory}
 use Rattle.psx_base.specs.KernelState.{ThreadContext, KernelState}
 use Rattle.kern_layout.specs.Valid.{RunningFits, NextFits, Valid}
 
-next_fits : (s : KernelState) (m : Memory) (x : ℕ) (t : ThreadContext) (o : Option ℕ) → NextFits s o → NextFits (record s { memory = m; random = x; running = t }) o
-next_fits s m x t None h = tt
-next_fits s m x t (Some n) h = h
+next_fits : (s : KernelState) (m : Memory) (x place : ℕ) (t : ThreadContext) (o : Option ℕ) → NextFits s o → NextFits (record s { memory = m; random = x; token = place; running = t }) o
+next_fits s m x place t None h = tt
+next_fits s m x place t (Some n) h = h
 
-pub valid_moved : (s : KernelState) (m : Memory) (x : ℕ) (t : ThreadContext) → Valid s → RunningFits t.context → Valid (record s { memory = m; random = x; running = t })
-valid_moved s m x t v r = record {
+pub valid_placed : (s : KernelState) (m : Memory) (x place : ℕ) (t : ThreadContext) → Valid s → RunningFits t.context → Valid (record s { memory = m; random = x; token = place; running = t })
+valid_placed s m x place t v r = record {
   threads_least = v.threads_least;
   threads_most = v.threads_most;
   threads = v.threads;
   current = v.current;
   running = r;
-  next = next_fits s m x t s.next v.next;
+  next = next_fits s m x place t s.next v.next;
   events_least = v.events_least;
   events_most = v.events_most;
   statuses = v.statuses;
@@ -29,3 +29,7 @@ valid_moved s m x t v r = record {
   files = v.files;
   line = v.line;
 }
+
+-- with strtok's place as it is
+pub valid_moved : (s : KernelState) (m : Memory) (x : ℕ) (t : ThreadContext) → Valid s → RunningFits t.context → Valid (record s { memory = m; random = x; running = t })
+valid_moved s m x t v r = valid_placed s m x s.token t v r

@@ -4,37 +4,110 @@ use Rattle.psx_base.specs.declared.stop.Table.{Table}
 use Rattle.psx_base.specs.declared.stop.Stop.TheVariants.{Unserved}
 use Rattle.psx_base.specs.KernelState.{KernelState}
 use Rattle.abs_kernel.specs.declared.calls.CallId.{CallId}
-use Rattle.abs_kernel.specs.declared.calls.CallId.TheVariants.{A06, A1B, A25, A2A, A2B, A2E, A2F, A30, A3A, A3C, A3E, B38, B3D, B3F}
+use Rattle.abs_kernel.specs.declared.calls.CallId.TheVariants.{A00, A02, A03, A04, A06, A08, A09, A13, A14, A15, A16, A17, A18, A19, A1A, A1B, A1C, A1D, A1E, A1F, A20, A21, A22, A23, A24, A25, A26, A27, A28, A29, A2A, A2B, A2C, A2D, A2E, A2F, A30, A3A, A3B, A3C, A3D, A3E, A44, B0E, B0F, B10, B32, B34, B35, B36, B38, B3A, B3B, B3C, B3D, B3E, B3F, B54}
 use Rattle.abs_kernel.specs.CallTable.{served_call}
 use Rattle.abs_kernel.specs.Stay.{Stay, Halt}
 use Rattle.abs_kernel.specs.Answered.{registers_of}
 use Rattle.abs_kernel.specs.Exits.{exits}
 use Rattle.abs_kernel.specs.Putchar.{putchar}
 use Rattle.abs_kernel.specs.Puts.{puts}
+use Rattle.abs_kernel.specs.Getchar.{getchar}
+use Rattle.abs_kernel.specs.Gets.{gets}
+use Rattle.abs_kernel.specs.Getc.{getc}
+use Rattle.abs_kernel.specs.ReadFile.{read}
+use Rattle.abs_kernel.specs.Open.{open_file}
+use Rattle.abs_kernel.specs.Close.{close}
+use Rattle.abs_kernel.specs.Putc.{putc}
+use Rattle.abs_kernel.specs.WriteFile.{write}
+use Rattle.abs_kernel.specs.GetLastError.{get_last_error}
 use Rattle.abs_kernel.specs.Strlen.{strlen}
+use Rattle.abs_kernel.specs.Strcpy.{strcpy}
+use Rattle.abs_kernel.specs.Strcat.{strcat}
+use Rattle.abs_kernel.specs.Strncat.{strncat}
+use Rattle.abs_kernel.specs.Strncpy.{strncpy}
+use Rattle.abs_kernel.specs.Strpbrk.{strpbrk}
+use Rattle.abs_kernel.specs.Strspn.{strspn}
+use Rattle.abs_kernel.specs.Strcspn.{strcspn}
+use Rattle.abs_kernel.specs.Strtok.{strtok}
+use Rattle.abs_kernel.specs.Strstr.{strstr}
 use Rattle.abs_kernel.specs.Toupper.{toupper}
-use Rattle.abs_kernel.specs.Memcpy.{memcpy}
-use Rattle.abs_kernel.specs.Memset.{memset}
+use Rattle.abs_kernel.specs.Memcpy.{memcpy, bcopy}
+use Rattle.abs_kernel.specs.Memset.{memset, bzero}
+use Rattle.abs_kernel.specs.Memmove.{memmove}
+use Rattle.abs_kernel.specs.Memcmp.{memcmp}
+use Rattle.abs_kernel.specs.Strcmp.{strcmp, strncmp}
+use Rattle.abs_kernel.specs.Strchr.{strchr}
+use Rattle.abs_kernel.specs.Strrchr.{strrchr}
+use Rattle.abs_kernel.specs.Tolower.{tolower}
 use Rattle.abs_kernel.specs.Memchr.{memchr}
 use Rattle.abs_kernel.specs.Rand.{rand}
 use Rattle.abs_kernel.specs.Srand.{srand}
+use Rattle.abs_kernel.specs.Jumps.{setjmp, longjmp}
+use Rattle.abs_kernel.specs.FlushCache.{flush_cache}
+use Rattle.abs_kernel.specs.OpenThread.{open_thread}
+use Rattle.abs_kernel.specs.CloseThread.{close_thread}
+use Rattle.abs_kernel.specs.ChangeThread.{change_thread}
 
 -- each call's stay
 abbrev pub call : CallId → KernelState → Stay
+call A00 s = open_file s
+call A02 s = read s
+call A03 s = write s
+call A04 s = close s
 call A06 s = exits s
+call A08 s = getc s
+call A09 s = putc s
+call A13 s = setjmp s
+call A14 s = longjmp s
+call A15 s = strcat s
+call A16 s = strncat s
+call A17 s = strcmp s
+call A18 s = strncmp s
+call A19 s = strcpy s
+call A1A s = strncpy s
 call A1B s = strlen s
+call A1C s = strchr s
+call A1D s = strrchr s
+call A1E s = strchr s
+call A1F s = strrchr s
+call A20 s = strpbrk s
+call A21 s = strspn s
+call A22 s = strcspn s
+call A23 s = strtok s
+call A24 s = strstr s
 call A25 s = toupper s
+call A26 s = tolower s
+call A27 s = bcopy s
+call A28 s = bzero s
+call A29 s = memcmp s
 call A2A s = memcpy s
 call A2B s = memset s
+call A2C s = memmove s
+call A2D s = memcmp s
 call A2E s = memchr s
 call A2F s = rand s
 call A30 s = srand s
 call A3A s = exits s
+call A3B s = getchar s
 call A3C s = putchar s
+call A3D s = gets s
 call A3E s = puts s
+call A44 s = flush_cache s
+call B0E s = open_thread s
+call B0F s = close_thread s
+call B10 s = change_thread s
+call B32 s = open_file s
+call B34 s = read s
+call B35 s = write s
+call B36 s = close s
 call B38 s = exits s
+call B3A s = getc s
+call B3B s = putc s
+call B3C s = getchar s
 call B3D s = putchar s
+call B3E s = gets s
 call B3F s = puts s
+call B54 s = get_last_error s
 
 -- a number without a row stops with its table, itself and r31
 abbrev pub by_row : Table → Option CallId → KernelState → Stay

@@ -5,22 +5,53 @@ use Rattle.psx_base.specs.Context.{settle}
 use Rattle.psx_base.specs.Items.{Entrance, ByA, ByB, ByC, BySyscall, ByInterrupt, ByDone, ByBack, ByTrap}
 use Rattle.psx_base.specs.KernelState.{KernelState}
 use Rattle.abs_kernel.specs.declared.calls.CallId.{CallId}
-use Rattle.abs_kernel.specs.declared.calls.CallId.TheVariants.{A2A, A2B, A2F, A30}
+use Rattle.abs_kernel.specs.declared.calls.CallId.TheVariants.{A00, A02, A03, A04, A08, A09, A13, A15, A16, A19, A1A, A23, A27, A28, A2A, A2B, A2C, A2F, A30, A3D, B0E, B0F, B10, B32, B34, B35, B36, B3A, B3B, B3E}
 use Rattle.abs_kernel.specs.CallTable.{served_call}
 use Rattle.abs_kernel.specs.Cause.{entrance_of}
 
--- the running context alone; the user's memory too; the random state too
+-- the running context alone; or beside it the user's memory, the random state, the memory and strtok's place, the files and the last error, the memory and the last error, the memory and the line, the threads
 pub data Part : Type 0 where
   ContextAlone : Part
   AndMemory : Part
   AndRandom : Part
+  AndPlace : Part
+  AndFiles : Part
+  AndInput : Part
+  AndLine : Part
+  AndThreads : Part
 
 -- a call that isn't named changes the running context alone
 abbrev pub changes : CallId → Part
+changes A00 = AndFiles
+changes A02 = AndInput
+changes A03 = AndFiles
+changes A04 = AndFiles
+changes A08 = AndFiles
+changes A09 = AndFiles
+changes A13 = AndMemory
+changes A15 = AndMemory
+changes A16 = AndMemory
+changes A19 = AndMemory
+changes A1A = AndMemory
+changes A23 = AndPlace
+changes A27 = AndMemory
+changes A28 = AndMemory
 changes A2A = AndMemory
 changes A2B = AndMemory
+changes A2C = AndMemory
 changes A2F = AndRandom
 changes A30 = AndRandom
+changes A3D = AndLine
+changes B0E = AndThreads
+changes B0F = AndThreads
+changes B10 = AndThreads
+changes B32 = AndFiles
+changes B34 = AndInput
+changes B35 = AndFiles
+changes B36 = AndFiles
+changes B3A = AndFiles
+changes B3B = AndFiles
+changes B3E = AndLine
 changes _ = ContextAlone
 
 -- the same where no call is served
@@ -48,8 +79,23 @@ abbrev pub Changed : Part → (s t : KernelState) → Type 0
 Changed ContextAlone s t = t ≡ record s { running = t.running }
 Changed AndMemory s t = t ≡ record s { running = t.running; memory = t.memory }
 Changed AndRandom s t = t ≡ record s { running = t.running; random = t.random }
+Changed AndFiles s t = t ≡ record s { running = t.running; files = t.files; errno = t.errno }
+Changed AndInput s t = t ≡ record s { running = t.running; memory = t.memory; errno = t.errno }
+Changed AndLine s t = t ≡ record s { running = t.running; memory = t.memory; line = t.line }
+Changed AndThreads s t = t ≡ record s { running = t.running; threads = t.threads; current = t.current; next = t.next }
+Changed AndPlace s t = t ≡ record s { running = t.running; memory = t.memory; token = t.token }
+
+-- another thread's context may be taken up by the calls on threads alone
+abbrev pub takes_up_another : Part → Bool
+takes_up_another AndThreads = true
+takes_up_another _ = false
 
 abbrev pub keeps_memory : Part → Bool
 keeps_memory ContextAlone = true
 keeps_memory AndMemory = false
 keeps_memory AndRandom = true
+keeps_memory AndFiles = true
+keeps_memory AndInput = false
+keeps_memory AndLine = false
+keeps_memory AndThreads = true
+keeps_memory AndPlace = false

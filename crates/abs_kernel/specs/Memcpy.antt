@@ -1,4 +1,4 @@
--- memcpy (PSX-SPX, Kernel (BIOS), Memory functions: memcpy). A pointer 0 answers 0 and touches nothing; the count is signed.
+-- memcpy, bcopy (PSX-SPX, Kernel (BIOS), Memory functions: memcpy, bcopy). A pointer 0 answers 0 and touches nothing; the count is signed.
 use Rattle.std.specs.Prelude.{ℕ, zero, suc, ◌%◌, ◌^◌, ◌||◌, nat_eq, if◌then◌else◌}
 use Rattle.psx_base.specs.KernelState.{KernelState}
 use Rattle.abs_kernel.specs.Stay.{Stay}
@@ -10,6 +10,14 @@ abbrev pub copy_bytes : (n : ℕ) → KernelState → (to from : ℕ) → (Kerne
 copy_bytes zero s to from next = next s
 copy_bytes (suc n) s to from next = reads_byte s from (λ b. writes_byte s to (b % 2 ^ 8) (λ t. copy_bytes n t (following to) (following from) next))
 
--- memcpy(d, s, n) answers d
+-- the answer is where they are copied to
+abbrev pub copies : KernelState → (to from n : ℕ) → Stay
+copies s to from n = if nat_eq to 0 || nat_eq from 0 then answered s 0 else copy_bytes (count_of n) s to from (λ t. answered t to)
+
+-- memcpy(d, s, n)
 abbrev pub memcpy : KernelState → Stay
-memcpy s = let r = registers_of s in if nat_eq r.r4 0 || nat_eq r.r5 0 then answered s 0 else copy_bytes (count_of r.r6) s r.r4 r.r5 (λ t. answered t r.r4)
+memcpy s = let r = registers_of s in copies s r.r4 r.r5 r.r6
+
+-- bcopy(s, d, n)
+abbrev pub bcopy : KernelState → Stay
+bcopy s = let r = registers_of s in copies s r.r5 r.r4 r.r6

@@ -12,7 +12,7 @@ use Rattle.psx_base.specs.KernelState.{KernelState}
 use Rattle.kern_layout.specs.Valid.{Valid}
 use Rattle.abs_kernel.specs.CallTable.{served_call}
 use Rattle.abs_kernel.specs.Cause.{entrance_of}
-use Rattle.abs_kernel.specs.Changes.{changed, Changed, keeps_memory}
+use Rattle.abs_kernel.specs.Changes.{changed, Changed, keeps_memory, takes_up_another}
 use Rattle.abs_kernel.specs.Stay.{Stay, Return, Halt, Ask, Tell, Write, Touch}
 use Rattle.abs_kernel.specs.KernelStep.{stay_of}
 
@@ -68,9 +68,9 @@ RestKept = (s : KernelState) (code : ℕ) → EachReturn (Changed (changed s cod
 abbrev pub MemoryKept : Type 0
 MemoryKept = (s : KernelState) (code : ℕ) → keeps_memory (changed s code) ≡ true → EachEnd (λ t. t.memory ≡ s.memory) (λ stop memory. memory ≡ s.memory) (stay_of s code)
 
--- it returns to the program at rest: k0 is the address and k1 is 0
+-- It returns to a program at rest: k0 is the address and k1 is 0. Where another thread may be taken up, that is so in a valid state.
 abbrev pub ReturnsAtRest : Type 0
-ReturnsAtRest = (s : KernelState) (code : ℕ) → EachReturn (λ t. IsAtRest t.running.context) (stay_of s code)
+ReturnsAtRest = (s : KernelState) (code : ℕ) → (takes_up_another (changed s code) ≡ true → Valid s) → EachReturn (λ t. IsAtRest t.running.context) (stay_of s code)
 
 -- it keeps the state valid
 abbrev pub ValidKept : Type 0

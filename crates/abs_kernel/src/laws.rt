@@ -42,7 +42,7 @@ pub fn critical_sections()
     ensures { InterruptsGivenBack }
 {}
 
-/// A call that waits returns to its own gate, with the same call to be made again. No call waits yet.
+/// A call that waits returns to its own gate, with the same call to be made again.
 pub fn waiting_calls()
     ensures { EnteredAgain }
 {}

@@ -43,6 +43,9 @@ fn some_calls_have_the_arguments_and_names_of_the_public_tables(
 ) -> Result<(), Fail> {
     let calls = [
         (CallId::A06, 1, "exit"),
+        (CallId::A18, 3, "strncmp"),
+        (CallId::A1C, 2, "index"),
+        (CallId::A26, 1, "tolower"),
         (CallId::A2B, 3, "memset"),
         (CallId::A2F, 0, "rand"),
         (CallId::A3A, 1, "_exit"),

@@ -37,6 +37,9 @@ pub(crate) fn host_of<R: AllocGlobal + Abort>(rt: &R, file: &[u8]) -> MemoryHost
 // The words that run it.
 pub(crate) const RUN: [&str; 4] = ["run", "a.exe", "-", "2000000"];
 
+// The words that run it with the schedule `s`.
+pub(crate) const RUN_WITH: [&str; 4] = ["run", "a.exe", "s", "2000000"];
+
 // `A3C(41h)`, then `A06(0)`.
 pub(crate) const HELLO: [u32; 9] = [
     0x2404_0041,

@@ -5,9 +5,19 @@
 #[cfg(test)]
 mod calls;
 #[cfg(test)]
+mod compare_calls;
+#[cfg(test)]
+mod copy_calls;
+#[cfg(test)]
+mod file_calls;
+#[cfg(test)]
 mod hosts;
 #[cfg(test)]
+mod jump_calls;
+#[cfg(test)]
 mod kept_registers;
+#[cfg(test)]
+mod memory_calls;
 #[cfg(test)]
 mod one_text_commands;
 #[cfg(test)]
@@ -19,12 +29,20 @@ mod rom;
 #[cfg(test)]
 mod run_inputs;
 #[cfg(test)]
+mod set_calls;
+#[cfg(test)]
 mod stops;
 #[cfg(test)]
+mod thread_calls;
+#[cfg(test)]
+mod waiting_calls;
+#[cfg(test)]
 mod whole_runs;
+#[cfg(test)]
+mod words_and_sizes;
 
 #[cfg(test)]
-use hosts::{RUN, host_of, host_with};
+use hosts::{RUN_WITH, host_of, host_with};
 #[cfg(test)]
 use psx_base::Out;
 #[cfg(test)]
@@ -35,6 +53,18 @@ use std::process::Abort;
 // Assembles a text, runs it, and looks at what the program wrote and how its trace ends.
 #[cfg(test)]
 pub(crate) fn shows<R: AllocGlobal + Abort>(rt: &R, text: &[u8], tty: &[u8], stop: &[u8]) {
+    shows_with(rt, text, b"", tty, stop);
+}
+
+// The same, with a schedule.
+#[cfg(test)]
+pub(crate) fn shows_with<R: AllocGlobal + Abort>(
+    rt: &R,
+    text: &[u8],
+    schedule: &[u8],
+    tty: &[u8],
+    stop: &[u8],
+) {
     let mut maker = host_with(rt, "a.s", text);
     assert_eq!(rt;
         psxk(rt.alloc(), &["asm", "a.s"], &mut maker),
@@ -42,9 +72,10 @@ pub(crate) fn shows<R: AllocGlobal + Abort>(rt: &R, text: &[u8], tty: &[u8], sto
         "{stop:?}"
     );
     let mut host = host_of(rt, maker.sent(Out::Ram));
+    host.put("s", schedule).expect(rt, "put");
     let ends_well = stop.starts_with(b" Exit ") || stop == b" Budget\n".as_slice();
     let status = if ends_well { 0 } else { 1 };
-    assert_eq!(rt; psxk(rt.alloc(), &RUN, &mut host), status, "{stop:?}");
+    assert_eq!(rt; psxk(rt.alloc(), &RUN_WITH, &mut host), status, "{stop:?}");
     assert_eq!(rt; host.sent(Out::Tty), tty, "{stop:?}");
     assert!(rt; host.sent(Out::Trace).ends_with(stop), "{stop:?}");
 }

@@ -1,5 +1,5 @@
 //! Written by examples/as_tests.sh from the files of examples/.
-use crate::shows;
+use crate::{shows, shows_with};
 
 #[test]
 fn critical(rt: HostRuntime) {
@@ -39,6 +39,52 @@ start:
         li      r4, 0
 ",
         b"1071",
+        b" Exit 00000000
+",
+    );
+}
+
+#[test]
+fn echo(rt: HostRuntime) {
+    shows_with(
+        &rt,
+        b"# Copies each byte that comes to the console back to it, until a byte 04h.
+# getchar waits: where no byte is due the kernel goes back to the gate's address, and the call is made again by itself.
+# The bytes come by a schedule, echo.sched.
+
+.equ GATE_A   0xA0
+.equ EXIT     0x06
+.equ GETCHAR  0x3B
+.equ PUTCHAR  0x3C
+.equ END      0x04                      # what ends the copy
+
+start:
+        li      r17, GATE_A
+        li      r18, END
+next:
+        jalr    r31, r17
+        li      r9, GETCHAR             # in the slot of the jump
+        beq     r2, r18, done
+        move    r4, r2                  # the byte that came
+        jalr    r31, r17
+        li      r9, PUTCHAR
+        beq     r0, r0, next
+        nop
+done:
+        li      r4, 0
+        jr      r17
+        li      r9, EXIT
+",
+        b"40000 byte 48
+40000 byte 65
+40000 byte 6C
+45000 byte 6C
+50000 byte 6F
+50000 byte 0A
+60000 byte 04
+",
+        b"Hello
+",
         b" Exit 00000000
 ",
     );
@@ -168,6 +214,102 @@ start:
 text:   .asciiz \"Here and there.\\n\"
 ",
         b"there.
+",
+        b" Exit 00000000
+",
+    );
+}
+
+#[test]
+fn memory(rt: HostRuntime) {
+    shows(
+        &rt,
+        b"# Calls on the bytes of memory: bzero, bcopy, memmove and memcmp. Then setjmp and longjmp: a routine goes back to a place that was marked before it was called.
+# A call keeps every register but r2, k0 and k1, so arguments are given anew only where they change.
+
+.equ GATE_A   0xA0
+.equ EXIT     0x06
+.equ SETJMP   0x13
+.equ LONGJMP  0x14
+.equ BCOPY    0x27
+.equ BZERO    0x28
+.equ MEMMOVE  0x2C
+.equ MEMCMP   0x2D
+.equ PUTS     0x3E
+
+start:
+        li      r17, GATE_A
+        la      r4, line                # from where,
+        li      r5, 16                  # how many
+        jalr    r31, r17
+        li      r9, BZERO               # in the slot of the jump
+
+        la      r4, letters             # from where,
+        la      r5, line                # to where,
+        li      r6, 8                   # how many
+        jalr    r31, r17
+        li      r9, BCOPY
+
+        la      r4, line+2              # to where,
+        la      r5, line                # from where: the two overlap,
+        li      r6, 6                   # how many
+        jalr    r31, r17
+        li      r9, MEMMOVE             # so the line is now ababcdef
+        la      r4, line
+        jalr    r31, r17
+        li      r9, PUTS
+
+        la      r5, wanted
+        li      r6, 8
+        jalr    r31, r17
+        li      r9, MEMCMP              # 0, since the 8 bytes are equal
+        move    r16, r2
+
+        la      r4, place
+        jalr    r31, r17
+        li      r9, SETJMP              # answers 0, and again 3 behind the longjmp
+        bne     r2, r0, back
+        nop
+        li      r16, 1                  # longjmp gives r16 back
+        jal     routine
+        nop
+        la      r4, never               # the routine doesn't return here
+        jalr    r31, r17
+        li      r9, PUTS
+
+back:
+        addiu   r2, r2, -3
+        or      r16, r16, r2            # 0, if both answers were right
+        la      r4, is_back
+        jalr    r31, r17
+        li      r9, PUTS
+        move    r4, r16                 # the program's code
+        jr      r17
+        li      r9, EXIT
+
+routine:
+        la      r4, inside
+        jalr    r31, r17
+        li      r9, PUTS
+        la      r4, place
+        li      r5, 3                   # what setjmp answers now
+        jr      r17
+        li      r9, LONGJMP
+
+letters:
+        .asciiz \"abcdefgh\"
+wanted: .asciiz \"ababcdef\"
+inside: .asciiz \"\\nin the routine\\n\"
+never:  .asciiz \"not reached\\n\"
+is_back:
+        .asciiz \"back again\\n\"
+line:   .space  16
+        .align  2
+place:  .space  48                      # 12 words: r31, sp, fp, r16 to r23, gp
+",
+        b"ababcdef
+in the routine
+back again
 ",
         b" Exit 00000000
 ",
@@ -361,6 +503,104 @@ table_end:
         b"31415926
 ",
         b" Exit 0000001F
+",
+    );
+}
+
+#[test]
+fn text(rt: HostRuntime) {
+    shows(
+        &rt,
+        b"# The text calls: a line is put together, compared, searched, and split into its words.
+# A call keeps every register but r2, k0 and k1, so an argument that stays is given once.
+
+.equ GATE_A   0xA0
+.equ EXIT     0x06
+.equ STRCAT   0x15
+.equ STRCMP   0x17
+.equ STRCPY   0x19
+.equ STRCHR   0x1E
+.equ STRTOK   0x23
+.equ STRSTR   0x24
+.equ PUTCHAR  0x3C
+.equ PUTS     0x3E
+
+start:
+        li      r17, GATE_A
+
+        la      r4, line
+        la      r5, begin
+        jalr    r31, r17                # the line is \"the quick \"
+        li      r9, STRCPY              # in the slot of the jump
+        la      r5, end
+        jalr    r31, r17                # and \"brown fox\" behind it
+        li      r9, STRCAT
+        jal     print                   # r4 is still the line
+        nop
+
+        la      r4, line
+        la      r5, whole
+        jalr    r31, r17
+        li      r9, STRCMP
+        move    r18, r2                 # 0: the texts are equal
+
+        li      r5, 'q'
+        jalr    r31, r17
+        li      r9, STRCHR
+        jal     print                   # from the first q on
+        move    r4, r2
+
+        la      r4, line
+        la      r5, brown
+        jalr    r31, r17
+        li      r9, STRSTR
+        jal     print                   # from \"brown\" on
+        move    r4, r2
+
+        la      r4, line                # the first call names the line,
+        la      r5, blank
+word:
+        jalr    r31, r17
+        li      r9, STRTOK
+        beq     r2, r0, done            # no word is left
+        nop
+        jal     print
+        move    r4, r2
+        beq     r0, r0, word
+        li      r4, 0                   # and each later one goes on behind the last word
+
+done:
+        move    r4, r18                 # strcmp's answer is the program's code
+        jr      r17
+        li      r9, EXIT
+
+# Writes the text in r4 and a line feed.
+print:
+        move    r16, r31
+        jalr    r31, r17
+        li      r9, PUTS
+        li      r4, 0x0A
+        jalr    r31, r17
+        li      r9, PUTCHAR
+        jr      r16
+        nop
+
+begin:  .asciiz \"the quick \"
+end:    .asciiz \"brown fox\"
+whole:  .asciiz \"the quick brown fox\"
+brown:  .asciiz \"brown\"
+blank:  .asciiz \" \"
+line:   .space  32
+",
+        b"the quick brown fox
+quick brown fox
+brown fox
+the
+quick
+brown
+fox
+",
+        b" Exit 00000000
 ",
     );
 }

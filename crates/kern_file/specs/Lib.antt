@@ -1,3 +1,5 @@
 pub mod Own
 pub mod FileWords
 pub mod FileLaws
+pub mod CallLaws
+pub mod LineLaws

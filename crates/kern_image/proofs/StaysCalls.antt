@@ -12,6 +12,10 @@ use Rattle.kern_stay.specs.Loops.{IsServedBy}
 use Rattle.kern_stay.specs.Served.{EachAt, AllServed}
 use Rattle.kern_entry.specs.declared.places.TheConstants.{EXIT}
 use Rattle.kern_entry.proofs.Joins.{exit_called}
+use denote.Enum.Bare.{same_true}
+use Rattle.abs_kernel.specs.contracts.calls.CallId.{the_type}
+use Rattle.kern_thread.specs.ThreadLaws.{thread_calls}
+use Rattle.kern_thread.proofs.Served.{thread_serves}
 use Rattle.kern_mem.specs.MemLaws.{mem_calls}
 use Rattle.kern_mem.proofs.Served.{mem_serves}
 use Rattle.kern_text.specs.TextLaws.{text_calls}
@@ -28,7 +32,7 @@ use Rattle.kern_image.proofs.StaysHeld.{holds_entry, pieces}
 -- ---- a call among others
 
 same_is : (a b : CallId) → same_call a b ≡ true → a ≡ b
-same_is a b h = search (rules, tests)
+same_is a b h = same_true the_type tt a b h
 
 -- the address that a list has for a call
 abbrev find : List (CallId × ℕ) → CallId → Option ℕ
@@ -63,7 +67,7 @@ entry_calls = (A06, EXIT) ∷ (A3A, EXIT) ∷ (B38, EXIT) ∷ []
 
 -- crate by crate
 abbrev all_calls : List (List (CallId × ℕ))
-all_calls = entry_calls ∷ mem_calls ∷ text_calls ∷ file_calls ∷ []
+all_calls = entry_calls ∷ thread_calls ∷ mem_calls ∷ text_calls ∷ file_calls ∷ []
 
 -- the tables have each call at its crate's address
 placed : (id : CallId) → find (joined all_calls) id ≡ Some (routine_of id)
@@ -89,7 +93,7 @@ module _ (m : Memory) (code : HoldsRom m rom) where
       (⊎_elim one two h.0, by_crate ps h.1)
 
   all_serve : EachCrate ServingAt all_calls
-  all_serve = let w = (pieces m code).1.1.1 in (by_entry, (by_crate mem_calls (mem_serves m w.0), (by_crate text_calls (text_serves m w.1.0), (by_crate file_calls (file_serves m w.1.1.0), tt))))
+  all_serve = let w = (pieces m code).1.1.1 in (by_entry, (by_crate thread_calls (thread_serves m w.0), (by_crate mem_calls (mem_serves m w.1.0), (by_crate text_calls (text_serves m w.1.1.0), (by_crate file_calls (file_serves m w.1.1.1.0), tt)))))
 
   pub served : (id : CallId) → ServingAt id (routine_of id)
   served id = found ServingAt (joined all_calls) id (routine_of id) (each_joined ServingAt all_calls all_serve) (placed id)

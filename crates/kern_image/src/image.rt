@@ -54,6 +54,7 @@ fn kernel(alloc: Global) -> Result<KernelBlock, Memory>
     kern_file::place(&mut block);
     kern_text::place(&mut block);
     kern_mem::place(&mut block);
+    kern_thread::place(&mut block);
     place_code(&mut block);
     place_tables(&mut block);
     place_vector(&mut block);

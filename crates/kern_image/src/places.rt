@@ -1,9 +1,18 @@
 //! Where the routine of each call stands.
 use abs_kernel::CallId;
 use kern_entry::places::EXIT;
-use kern_file::places::{PUTCHAR, PUTS};
-use kern_mem::places::{MEMCHR, MEMCPY, MEMSET, RAND, SRAND};
-use kern_text::places::{STRLEN, TOUPPER};
+use kern_file::places::{
+    CLOSE, GET_LAST_ERROR, GETC, GETCHAR, GETS, OPEN, PUTC, PUTCHAR, PUTS, READ, WRITE,
+};
+use kern_mem::places::{
+    BCOPY, BZERO, FLUSH_CACHE, LONGJMP, MEMCHR, MEMCMP, MEMCPY, MEMMOVE, MEMSET, RAND, SETJMP,
+    SRAND,
+};
+use kern_text::places::{
+    STRCAT, STRCHR, STRCMP, STRCPY, STRCSPN, STRLEN, STRNCAT, STRNCMP, STRNCPY, STRPBRK, STRRCHR,
+    STRSPN, STRSTR, STRTOK, TOLOWER, TOUPPER,
+};
+use kern_thread::places::{CHANGE_THREAD, CLOSE_THREAD, OPEN_THREAD};
 
 /// A call, and the address of the listing that serves it.
 #[derive(Clone, Copy)]
@@ -15,18 +24,126 @@ pub struct Place {
 }
 
 /// Each call once. Numbers of one description share an address.
-pub const PLACES: [Place; 14] = [
+pub const PLACES: [Place; 58] = [
+    Place {
+        call: CallId::A00,
+        at: OPEN,
+    },
+    Place {
+        call: CallId::A02,
+        at: READ,
+    },
+    Place {
+        call: CallId::A03,
+        at: WRITE,
+    },
+    Place {
+        call: CallId::A04,
+        at: CLOSE,
+    },
     Place {
         call: CallId::A06,
         at: EXIT,
+    },
+    Place {
+        call: CallId::A08,
+        at: GETC,
+    },
+    Place {
+        call: CallId::A09,
+        at: PUTC,
+    },
+    Place {
+        call: CallId::A13,
+        at: SETJMP,
+    },
+    Place {
+        call: CallId::A14,
+        at: LONGJMP,
+    },
+    Place {
+        call: CallId::A15,
+        at: STRCAT,
+    },
+    Place {
+        call: CallId::A16,
+        at: STRNCAT,
+    },
+    Place {
+        call: CallId::A17,
+        at: STRCMP,
+    },
+    Place {
+        call: CallId::A18,
+        at: STRNCMP,
+    },
+    Place {
+        call: CallId::A19,
+        at: STRCPY,
+    },
+    Place {
+        call: CallId::A1A,
+        at: STRNCPY,
     },
     Place {
         call: CallId::A1B,
         at: STRLEN,
     },
     Place {
+        call: CallId::A1C,
+        at: STRCHR,
+    },
+    Place {
+        call: CallId::A1D,
+        at: STRRCHR,
+    },
+    Place {
+        call: CallId::A1E,
+        at: STRCHR,
+    },
+    Place {
+        call: CallId::A1F,
+        at: STRRCHR,
+    },
+    Place {
+        call: CallId::A20,
+        at: STRPBRK,
+    },
+    Place {
+        call: CallId::A21,
+        at: STRSPN,
+    },
+    Place {
+        call: CallId::A22,
+        at: STRCSPN,
+    },
+    Place {
+        call: CallId::A23,
+        at: STRTOK,
+    },
+    Place {
+        call: CallId::A24,
+        at: STRSTR,
+    },
+    Place {
         call: CallId::A25,
         at: TOUPPER,
+    },
+    Place {
+        call: CallId::A26,
+        at: TOLOWER,
+    },
+    Place {
+        call: CallId::A27,
+        at: BCOPY,
+    },
+    Place {
+        call: CallId::A28,
+        at: BZERO,
+    },
+    Place {
+        call: CallId::A29,
+        at: MEMCMP,
     },
     Place {
         call: CallId::A2A,
@@ -35,6 +152,14 @@ pub const PLACES: [Place; 14] = [
     Place {
         call: CallId::A2B,
         at: MEMSET,
+    },
+    Place {
+        call: CallId::A2C,
+        at: MEMMOVE,
+    },
+    Place {
+        call: CallId::A2D,
+        at: MEMCMP,
     },
     Place {
         call: CallId::A2E,
@@ -53,23 +178,83 @@ pub const PLACES: [Place; 14] = [
         at: EXIT,
     },
     Place {
+        call: CallId::A3B,
+        at: GETCHAR,
+    },
+    Place {
         call: CallId::A3C,
         at: PUTCHAR,
+    },
+    Place {
+        call: CallId::A3D,
+        at: GETS,
     },
     Place {
         call: CallId::A3E,
         at: PUTS,
     },
     Place {
+        call: CallId::A44,
+        at: FLUSH_CACHE,
+    },
+    Place {
+        call: CallId::B0E,
+        at: OPEN_THREAD,
+    },
+    Place {
+        call: CallId::B0F,
+        at: CLOSE_THREAD,
+    },
+    Place {
+        call: CallId::B10,
+        at: CHANGE_THREAD,
+    },
+    Place {
+        call: CallId::B32,
+        at: OPEN,
+    },
+    Place {
+        call: CallId::B34,
+        at: READ,
+    },
+    Place {
+        call: CallId::B35,
+        at: WRITE,
+    },
+    Place {
+        call: CallId::B36,
+        at: CLOSE,
+    },
+    Place {
         call: CallId::B38,
         at: EXIT,
+    },
+    Place {
+        call: CallId::B3A,
+        at: GETC,
+    },
+    Place {
+        call: CallId::B3B,
+        at: PUTC,
+    },
+    Place {
+        call: CallId::B3C,
+        at: GETCHAR,
     },
     Place {
         call: CallId::B3D,
         at: PUTCHAR,
     },
     Place {
+        call: CallId::B3E,
+        at: GETS,
+    },
+    Place {
         call: CallId::B3F,
         at: PUTS,
+    },
+    Place {
+        call: CallId::B54,
+        at: GET_LAST_ERROR,
     },
 ];

@@ -1,7 +1,7 @@
--- memcpy meets its stay.
-use Rattle.psx_flow.proofs.Kit.{◌≡◌, ℕ, suc, ◌+◌, ◌-◌, ◌%◌, ◌^◌, ◌<◌, ◌≤◌, ◌++◌, refl, sym, ap, ◌∙◌, subst, arith, Memory, byte, put_byte, Run, Goal, Calls, calls, place, kernel_words, start}
-use Rattle.std.proofs.Common.{zero, [], eq-eqb, ne_eqb}
-use Rattle.std.specs.Prelude.{nat_eq, nat_lt, ◌||◌, if◌then◌else◌}
+-- memcpy and bcopy meet their stays.
+use Rattle.psx_flow.proofs.Kit.{◌≡◌, ℕ, suc, ◌+◌, ◌-◌, ◌%◌, ◌^◌, ◌<◌, ◌≤◌, ◌++◌, refl, sym, ap, ◌∙◌, subst, arith, Memory, Registers, Cop0, byte, put_byte, Run, Goal, Calls, calls, place, kernel_words, start, Sym, Count, ended}
+use Rattle.std.proofs.Common.{zero, []}
+use Rattle.std.specs.Prelude.{nat_lt}
 use Rattle.psx_base.specs.KernelState.{KernelState}
 use Rattle.psx_cpu.specs.Words.{truth}
 use Rattle.psx_flow.specs.Told.{ports}
@@ -10,8 +10,8 @@ use Rattle.abs_kernel.proofs.Moved.{valid_moved}
 use Rattle.abs_kernel.specs.Stay.{Stay}
 use Rattle.abs_kernel.specs.Answered.{registers_of, answered}
 use Rattle.abs_kernel.specs.UserBytes.{reads_byte, writes_byte, bad_pointer, following, count_of, with_byte}
-use Rattle.abs_kernel.specs.Memcpy.{copy_bytes, memcpy}
-use Rattle.abs_kernel.specs.declared.calls.CallId.TheVariants.{A2A}
+use Rattle.abs_kernel.specs.Memcpy.{copy_bytes, copies, memcpy, bcopy}
+use Rattle.abs_kernel.specs.declared.calls.CallId.TheVariants.{A27, A2A}
 use Rattle.abs_kernel.specs.Calls.{call}
 use Rattle.kern_stay.specs.Room.{room}
 use Rattle.kern_stay.specs.Shared.{tree, tested_there}
@@ -20,11 +20,11 @@ use Rattle.kern_stay.proofs.RoomGiven.{KnowsRoom, knows_room, true_then, false_t
 use Rattle.kern_stay.proofs.Holding.{holds_byte}
 use Rattle.kern_stay.proofs.Ending.{no_count, a_count, through, answers, Left, left_all, left_is, left_read, left_unread, left_written, left_unwritten, user_byte}
 use Rattle.kern_stay.proofs.Looping.{Turning, FromLoop, looped, leaves, stops}
-use Rattle.kern_stay.proofs.Cursor.{null, not_null}
 use Rattle.kern_stay.proofs.TwoCursors.{Pair, pair_all, pair_first, pair_other, Cursors, both_come, both_done, first_bad, other_bad}
 use Rattle.kern_mem.specs.Own.{own}
-use Rattle.kern_mem.specs.declared.places.TheConstants.{MEMCPY, ROOM}
-use Rattle.kern_mem.specs.declared.a2a_memcpy.TheConstants.{NODES}
+use Rattle.kern_mem.specs.declared.places.TheConstants.{MEMCPY, BCOPY, ROOM}
+use Rattle.kern_mem.specs.declared.a2a_memcpy.TheConstants.{NODES, BCOPY_NODES}
+use Rattle.kern_mem.proofs.Pointers.{null_first, null_other, not_null_both}
 
 -- the state with its memory so far
 abbrev now : KernelState → Memory → KernelState
@@ -141,48 +141,43 @@ module _ (C : Calls) (know : KnowsRoom ROOM C) (stay : Stay) (s : KernelState) (
       }
 
 -- how the stay goes on behind the pointers
-begins : (s : KernelState) (n : ℕ) → let r = registers_of s in (r.r4 ≡ 0 → ⊥) → (r.r5 ≡ 0 → ⊥) → count_of r.r6 ≡ n → memcpy s ≡ copy_bytes n s r.r4 r.r5 (done r.r4)
-begins s n nd ns e =
-    let r = registers_of s in
-    let go : Stay = copy_bytes (count_of r.r6) s r.r4 r.r5 (done r.r4) in
-    ap (λ x. if x || nat_eq r.r5 0 then answered s 0 else go) (ne_eqb r.r4 0 nd) ∙ not_null r.r5 (answered s 0) go ns ∙ ap (λ n. copy_bytes n s r.r4 r.r5 (done r.r4)) e
+begins : (s : KernelState) (b a n k : ℕ) → (b ≡ 0 → ⊥) → (a ≡ 0 → ⊥) → count_of n ≡ k → copies s b a n ≡ copy_bytes k s b a (done b)
+begins s b a n k nb na e = not_null_both b a (answered s 0) (copy_bytes (count_of n) s b a (done b)) nb na ∙ ap (λ k. copy_bytes k s b a (done b)) e
 
-null_first : (p q : ℕ) (x y : Stay) → p ≡ 0 → (if nat_eq p 0 || nat_eq q 0 then x else y) ≡ x
-null_first p q x y e = ap (λ b. if b || nat_eq q 0 then x else y) (eq-eqb p 0 e)
+abbrev C : Calls
+C = calls kernel_words (own ++ tested_there)
 
-null_other : (p q : ℕ) (x y : Stay) → (p ≡ 0 → ⊥) → q ≡ 0 → (if nat_eq p 0 || nat_eq q 0 then x else y) ≡ x
-null_other p q x y ne e = ap (λ b. if b || nat_eq q 0 then x else y) (ne_eqb p 0 ne) ∙ null q x y e
+know : KnowsRoom ROOM C
+know = knows_room ROOM tested_there
 
-pub serves : Serves own most_steps (call A2A) MEMCPY (tree NODES)
-serves s d z m h =
-    let C : Calls = calls kernel_words (own ++ tested_there) in
-    let know : KnowsRoom ROOM C = knows_room ROOM tested_there in
-    let b : ℕ = (registers_of s).r4 in
-    let a : ℕ = (registers_of s).r5 in
-    let n : ℕ = (registers_of s).r6 in
-    let small_b : b < 2 ^ 32 = h.words 4 in
-    let small_a : a < 2 ^ 32 = h.words 5 in
+-- from where the destination is in r4, the source in r5 and the count in r6
+copying : (s : KernelState) → Valid s → (c : Registers) (z : Cop0) (m : Memory) → Holds s m → (at : ℕ) (p : Count) → p.steps ≤ 100 → c.r4 < 2 ^ 32 → c.r5 < 2 ^ 32
+    → Sym C (tree NODES) at (ended (λ _. ⊥)) (λ to e. Through (copies s c.r4 c.r5 c.r6) most_steps to e) c z m [] [] p
+copying s valid c z m holds at p soon small_b small_a =
+    let b : ℕ = c.r4 in
+    let a : ℕ = c.r5 in
+    let n : ℕ = c.r6 in
+    let stay : Stay = copies s b a n in
     let second : ℕ = truth (nat_lt (room b) (room a)) in
-    let go : Stay = copy_bytes (count_of n) s b a (done b) in
-    start C know.fair (tree NODES) MEMCPY (λ _. ⊥) (λ to e. Through (memcpy s) most_steps to e) (begun (called_with (registers_of s) d) z m) (
-      λ none. through (memcpy s) most_steps _ _ refl (answers most_steps s _ (memcpy s) (null_first b a (answered s 0) go none) h.holds (omega arith)),
-      λ nd. (
-        λ none. through (memcpy s) most_steps _ _ refl (answers most_steps s _ (memcpy s) (null_other b a (answered s 0) go nd none) h.holds (omega arith)),
-        λ ns. (
-          λ few. through (memcpy s) most_steps _ _ refl (answers most_steps s _ (memcpy s) (begins s 0 nd ns (no_count n few)) h.holds (omega arith)),
+    let go : Stay = copy_bytes (count_of n) s b a (done b) in (
+      λ none. through stay most_steps _ _ refl (answers most_steps s _ stay (null_first b a (answered s 0) go none) holds (omega arith)),
+      λ nb. (
+        λ none. through stay most_steps _ _ refl (answers most_steps s _ stay (null_other b a (answered s 0) go nb none) holds (omega arith)),
+        λ na. (
+          λ few. through stay most_steps _ _ refl (answers most_steps s _ stay (begins s b a n 0 nb na (no_count n few)) holds (omega arith)),
           λ pos.
-              let l = left_is (memcpy s) _ _ most_steps (begins s n nd ns (a_count n pos.1)) (left_all (memcpy s)) in
-              know.room _ _ _ _ _ _ _ small_b (λ x y p up. know.room _ _ _ _ _ _ _ small_a (λ f g q more. (
+              let l = left_is stay _ _ most_steps (begins s b a n n nb na (a_count n pos.1)) (left_all stay) in
+              know.room _ _ _ _ _ _ _ small_b (λ x y q up. know.room _ _ _ _ _ _ _ small_a (λ f g r more. (
                 λ nz.
                     let flag : ℕ = truth (nat_lt (room b) n) in
                     let less = true_then (room b) (room a) nz in (
                       λ z.
                           let fits = false_then (room b) n z in
                           let both = pair_all a b n flag second small_a small_b z (omega (arith, fits, less)) fits in
-                          loops C know (memcpy s) s h.valid a b n n flag second both _ l h.holds (omega arith) refl refl refl refl refl refl refl,
+                          loops C know stay s valid a b n n flag second both _ l holds (omega arith) refl refl refl refl refl refl refl,
                       λ ne.
                           let bad = pair_other a b n flag second small_a small_b ne nz (true_then (room b) n ne) less in
-                          loops C know (memcpy s) s h.valid a b n (room b) flag second bad _ l h.holds (omega arith) refl refl refl refl refl refl refl,
+                          loops C know stay s valid a b n (room b) flag second bad _ l holds (omega arith) refl refl refl refl refl refl refl,
                     ),
                 λ nz.
                     let flag : ℕ = truth (nat_lt (room a) n) in
@@ -190,12 +185,22 @@ serves s d z m h =
                       λ z.
                           let fits = false_then (room a) n z in
                           let both = pair_all a b n flag second small_a small_b z fits (omega (arith, fits, le)) in
-                          loops C know (memcpy s) s h.valid a b n n flag second both _ l h.holds (omega arith) refl refl refl refl refl refl refl,
+                          loops C know stay s valid a b n n flag second both _ l holds (omega arith) refl refl refl refl refl refl refl,
                       λ ne.
                           let bad = pair_first a b n flag second small_a small_b ne nz (true_then (room a) n ne) le in
-                          loops C know (memcpy s) s h.valid a b n (room a) flag second bad _ l h.holds (omega arith) refl refl refl refl refl refl refl,
+                          loops C know stay s valid a b n (room a) flag second bad _ l holds (omega arith) refl refl refl refl refl refl refl,
                     ),
               ))),
         ),
       ),
     )
+
+pub serves : Serves own most_steps (call A2A) MEMCPY (tree NODES)
+serves s d z m h =
+    start C know.fair (tree NODES) MEMCPY (λ _. ⊥) (λ to e. Through (memcpy s) most_steps to e) (begun (called_with (registers_of s) d) z m)
+    (copying s h.valid _ z m h.holds MEMCPY _ (omega arith) (h.words 4) (h.words 5))
+
+pub bcopy_serves : Serves own most_steps (call A27) BCOPY (tree BCOPY_NODES)
+bcopy_serves s d z m h =
+    start C know.fair (tree BCOPY_NODES) BCOPY (λ _. ⊥) (λ to e. Through (bcopy s) most_steps to e) (begun (called_with (registers_of s) d) z m)
+    (copying s h.valid _ z m h.holds (BCOPY + 4 + 4 + 4) _ (omega arith) (h.words 5) (h.words 4))

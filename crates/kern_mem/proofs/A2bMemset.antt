@@ -1,5 +1,5 @@
--- memset meets its stay.
-use Rattle.psx_flow.proofs.Kit.{◌≡◌, ℕ, suc, ◌+◌, ◌-◌, ◌%◌, ◌^◌, ◌<◌, ◌≤◌, ◌++◌, refl, sym, ap, ◌∙◌, subst, arith, Memory, put_byte, Run, Goal, Calls, calls, place, kernel_words, start}
+-- memset and bzero meet their stays.
+use Rattle.psx_flow.proofs.Kit.{◌≡◌, ℕ, suc, ◌+◌, ◌-◌, ◌%◌, ◌^◌, ◌<◌, ◌≤◌, ◌++◌, refl, sym, ap, ◌∙◌, subst, arith, Memory, Registers, Cop0, put_byte, Run, Goal, Calls, calls, place, kernel_words, start, Sym, Count, ended}
 use Rattle.std.proofs.Common.{zero, []}
 use Rattle.std.specs.Prelude.{nat_lt}
 use Rattle.psx_base.specs.KernelState.{KernelState}
@@ -10,8 +10,8 @@ use Rattle.abs_kernel.proofs.Moved.{valid_moved}
 use Rattle.abs_kernel.specs.Stay.{Stay}
 use Rattle.abs_kernel.specs.Answered.{registers_of, answered}
 use Rattle.abs_kernel.specs.UserBytes.{writes_byte, bad_pointer, following, count_of, with_byte}
-use Rattle.abs_kernel.specs.Memset.{fill, memset}
-use Rattle.abs_kernel.specs.declared.calls.CallId.TheVariants.{A2B}
+use Rattle.abs_kernel.specs.Memset.{fill, fills, memset, bzero}
+use Rattle.abs_kernel.specs.declared.calls.CallId.TheVariants.{A28, A2B}
 use Rattle.abs_kernel.specs.Calls.{call}
 use Rattle.kern_stay.specs.Room.{room}
 use Rattle.kern_stay.specs.Shared.{tree, tested_there}
@@ -23,8 +23,8 @@ use Rattle.kern_stay.proofs.Ending.{no_count, a_count, through, answers, Left, l
 use Rattle.kern_stay.proofs.Looping.{starting, Turning, FromLoop, looped, leaves, stops}
 use Rattle.kern_stay.proofs.Cursor.{Cursor, coming, done_all, done_bad, null, not_null}
 use Rattle.kern_mem.specs.Own.{own}
-use Rattle.kern_mem.specs.declared.places.TheConstants.{MEMSET, ROOM}
-use Rattle.kern_mem.specs.declared.a2b_memset.TheConstants.{NODES}
+use Rattle.kern_mem.specs.declared.places.TheConstants.{MEMSET, BZERO, ROOM}
+use Rattle.kern_mem.specs.declared.a2b_memset.TheConstants.{NODES, BZERO_NODES}
 
 -- the state with its memory so far
 abbrev now : KernelState → Memory → KernelState
@@ -127,33 +127,46 @@ module _ (C : Calls) (know : KnowsRoom ROOM C) (stay : Stay) (s : KernelState) (
       }
 
 -- how the stay goes on behind the pointer
-begins : (s : KernelState) (n : ℕ) → let r = registers_of s in (r.r4 ≡ 0 → ⊥) → count_of r.r6 ≡ n → memset s ≡ fill n s r.r4 (r.r5 % 2 ^ 8) (done r.r4)
-begins s n ne e =
-    let r = registers_of s in
-    not_null r.r4 (answered s 0) (fill (count_of r.r6) s r.r4 (r.r5 % 2 ^ 8) (done r.r4)) ne ∙ ap (λ n. fill n s r.r4 (r.r5 % 2 ^ 8) (done r.r4)) e
+begins : (s : KernelState) (a b n k : ℕ) → (a ≡ 0 → ⊥) → count_of n ≡ k → fills s a b n ≡ fill k s a (b % 2 ^ 8) (done a)
+begins s a b n k ne e = not_null a (answered s 0) (fill (count_of n) s a (b % 2 ^ 8) (done a)) ne ∙ ap (λ k. fill k s a (b % 2 ^ 8) (done a)) e
 
-pub serves : Serves own most_steps (call A2B) MEMSET (tree NODES)
-serves s d z m h =
-    let C : Calls = calls kernel_words (own ++ tested_there) in
-    let know : KnowsRoom ROOM C = knows_room ROOM tested_there in
-    let a : ℕ = (registers_of s).r4 in
-    let b : ℕ = (registers_of s).r5 in
-    let n : ℕ = (registers_of s).r6 in
-    let small : a < 2 ^ 32 = h.words 4 in
-    let flag : ℕ = truth (nat_lt (room a) n) in
-    start C know.fair (tree NODES) MEMSET (λ _. ⊥) (λ to e. Through (memset s) most_steps to e) (begun (called_with (registers_of s) d) z m) (
-      λ none. through (memset s) most_steps _ _ refl (answers most_steps s _ (memset s) (null (registers_of s).r4 (answered s 0) _ none) h.holds (omega arith)),
+abbrev C : Calls
+C = calls kernel_words (own ++ tested_there)
+
+know : KnowsRoom ROOM C
+know = knows_room ROOM tested_there
+
+-- from where the place is in r4, the byte in r5 and the count in r6
+filling : (s : KernelState) → Valid s → (c : Registers) (z : Cop0) (m : Memory) → Holds s m → (at : ℕ) (p : Count) → p.steps ≤ 100 → c.r4 < 2 ^ 32
+    → Sym C (tree NODES) at (ended (λ _. ⊥)) (λ to e. Through (fills s c.r4 c.r5 c.r6) most_steps to e) c z m [] [] p
+filling s valid c z m holds at p soon small =
+    let a : ℕ = c.r4 in
+    let b : ℕ = c.r5 in
+    let n : ℕ = c.r6 in
+    let stay : Stay = fills s a b n in
+    let flag : ℕ = truth (nat_lt (room a) n) in (
+      λ none. through stay most_steps _ _ refl (answers most_steps s _ stay (null a (answered s 0) _ none) holds (omega arith)),
       λ some. (
-        λ few. through (memset s) most_steps _ _ refl (answers most_steps s _ (memset s) (begins s 0 some (no_count n few)) h.holds (omega arith)),
+        λ few. through stay most_steps _ _ refl (answers most_steps s _ stay (begins s a b n 0 some (no_count n few)) holds (omega arith)),
         λ pos.
-            let l = left_is (memset s) _ _ most_steps (begins s n some (a_count n pos.1)) (left_all (memset s)) in
-            know.room _ _ _ _ _ _ _ small (λ x y p up. (
-              λ q.
-                  let all = span_all a n flag small q (false_then (room a) n q) in
-                  loops C know (memset s) s h.valid a n b ((a + n) % 2 ^ 32) flag all _ l h.holds (omega arith) refl refl refl refl refl refl,
+            let l = left_is stay _ _ most_steps (begins s a b n n some (a_count n pos.1)) (left_all stay) in
+            know.room _ _ _ _ _ _ _ small (λ x y q up. (
+              λ z.
+                  let all = span_all a n flag small z (false_then (room a) n z) in
+                  loops C know stay s valid a n b ((a + n) % 2 ^ 32) flag all _ l holds (omega arith) refl refl refl refl refl refl,
               λ ne.
                   let bad = span_some a n flag small ne (true_then (room a) n ne) in
-                  loops C know (memset s) s h.valid a n b ((a + room a) % 2 ^ 32) flag bad _ l h.holds (omega arith) refl refl refl refl refl refl,
+                  loops C know stay s valid a n b ((a + room a) % 2 ^ 32) flag bad _ l holds (omega arith) refl refl refl refl refl refl,
             )),
       ),
     )
+
+pub serves : Serves own most_steps (call A2B) MEMSET (tree NODES)
+serves s d z m h =
+    start C know.fair (tree NODES) MEMSET (λ _. ⊥) (λ to e. Through (memset s) most_steps to e) (begun (called_with (registers_of s) d) z m)
+    (filling s h.valid _ z m h.holds MEMSET _ (omega arith) (h.words 4))
+
+pub bzero_serves : Serves own most_steps (call A28) BZERO (tree BZERO_NODES)
+bzero_serves s d z m h =
+    start C know.fair (tree BZERO_NODES) BZERO (λ _. ⊥) (λ to e. Through (bzero s) most_steps to e) (begun (called_with (registers_of s) d) z m)
+    (filling s h.valid _ z m h.holds (BZERO + 4 + 4) _ (omega arith) (h.words 4))

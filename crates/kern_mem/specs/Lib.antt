@@ -1,3 +1,5 @@
 pub mod Own
 pub mod MemWords
 pub mod MemLaws
+pub mod Laws
+pub mod MoveLaws

@@ -3,7 +3,11 @@ use crate::a2a_memcpy::memcpy;
 use crate::a2b_memset::memset;
 use crate::a2e_memchr::memchr;
 use crate::a2f_rand::rand;
+use crate::a13_setjmp::setjmp;
+use crate::a14_longjmp::longjmp;
 use crate::a30_srand::srand;
+use crate::a44_flush_cache::flush_cache;
+use crate::laws::{longjmp_comes_back, memcpy_copies, memset_fills, reading_keeps};
 use crate::place;
 use crate::placing::{apart, mem_serves};
 use kern_layout::KernelBlock;
@@ -25,6 +29,14 @@ fn places_the_calls(rt: HostRuntime) -> Result<(), Fail> {
     assert_eq!(rt; block.word(0x3F08), 0x910C_0000);
     assert_eq!(rt; block.word(0x3F0C), 0x2508_0001);
     assert_eq!(rt; block.word(0x3F10), 0xA12C_0000);
+    // setjmp: lui t4, 8001h; lw t5, EB84h(t4).
+    assert_eq!(rt; block.word(0x3F80), 0x3C0C_8001);
+    assert_eq!(rt; block.word(0x3F84), 0x8D8D_EB84);
+    // longjmp: or t0, zero, a0; addiu t9, zero, 12.
+    assert_eq!(rt; block.word(0x4080), 0x0004_4025);
+    assert_eq!(rt; block.word(0x4084), 0x2419_000C);
+    // FlushCache: or v0, zero, zero.
+    assert_eq!(rt; block.word(0x4140), 0x0000_1025);
     Ok(())
 }
 
@@ -35,10 +47,17 @@ fn lends_listings(rt: HostRuntime) {
     assert_eq!(rt; memchr().len(), 30);
     assert_eq!(rt; rand().len(), 11);
     assert_eq!(rt; srand().len(), 4);
+    assert_eq!(rt; setjmp().len(), 38);
+    assert_eq!(rt; longjmp().len(), 37);
+    assert_eq!(rt; flush_cache().len(), 2);
 }
 
 #[test]
 fn laws_do_nothing() {
     apart();
     mem_serves();
+    memset_fills();
+    memcpy_copies();
+    reading_keeps();
+    longjmp_comes_back();
 }

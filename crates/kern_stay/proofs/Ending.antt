@@ -89,7 +89,7 @@ in_segment false false true true s h = (refl, refl)
 in_segment false false true false s h = absurd (false≢true h)
 in_segment false false false m s h = absurd (false≢true h)
 
-user_place : (a : ℕ) → user a ≡ true → (user_main (place a) || scratchpad (place a)) ≡ true
+pub user_place : (a : ℕ) → user a ≡ true → (user_main (place a) || scratchpad (place a)) ≡ true
 unfolding user
 user_place a u =
     let b = in_segment (nat_eq (top a) 0) (nat_eq (top a) 4) (nat_eq (top a) 5) (user_main (low a)) (scratchpad (low a)) u in

@@ -11,5 +11,10 @@ pub mod Cursor
 pub mod TwoCursors
 pub mod Looping
 pub mod Passing
+pub mod Asking
+pub mod LineHolding
 pub mod Copying
 pub mod Switching
+pub mod Serving
+pub mod UserWords
+pub mod AreaStored

@@ -112,7 +112,7 @@ module _ (C : Calls) (know : KnowsRoom ROOM C) (stay : Stay) (s : KernelState) (
         cursor = starting a n stop 1 e.regs.r8 span r8;
       }
 
-room_short : (a : ℕ) → room a + 1 ≤ longest
+pub room_short : (a : ℕ) → room a + 1 ≤ longest
 unfolding longest
 room_short a = let h = room_few a in omega (arith, h)
 

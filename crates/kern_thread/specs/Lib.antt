@@ -1,2 +1,3 @@
 pub mod Own
-pub mod Change
+pub mod ThreadWords
+pub mod ThreadLaws

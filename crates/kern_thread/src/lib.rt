@@ -1,5 +1,12 @@
-//! The calls on threads.
+//! The calls on threads. Each routine's listing stands in a file of its own, with its theorem.
 #![tactic(auto)]
 
-pub mod change;
+pub mod b0e_open_thread;
+pub mod b0f_close_thread;
+pub mod b10_change_thread;
 pub mod places;
+pub mod placing;
+#[cfg(test)]
+mod tests;
+
+pub use placing::place;

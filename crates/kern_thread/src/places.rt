@@ -1,13 +1,39 @@
 //! Where the routines stand, in the cached segment, in which the kernel runs, and the kernel's data as the listings reach it.
-use kern_layout::places::{CURRENT, WORK_AREA};
+use kern_layout::places::{
+    CURRENT, FRAME_COUNT, NEXT as NEXT_PLACE, THREAD_COUNT, THREAD_FREE, THREAD_USED, WORK_AREA,
+};
 use kern_layout::ranges::{THREAD_CODE, THREADS};
 use kern_stay::places::CACHED;
 
 /// The listing of ChangeThread.
-pub const CHANGE: u32 = CACHED + THREAD_CODE.from;
+pub const CHANGE_THREAD: u32 = CACHED + THREAD_CODE.from;
 
 /// The listing that copies words of the kernel's data.
-pub const COPY: u32 = CHANGE + 0xC0;
+pub const COPY: u32 = CHANGE_THREAD + 0x100;
+
+/// The listing of CloseThread.
+pub const CLOSE_THREAD: u32 = COPY + 0x40;
+
+/// The listing of OpenThread.
+pub const OPEN_THREAD: u32 = CLOSE_THREAD + 0x80;
+
+/// The upper half of the handles.
+pub const HANDLES: u16 = 0xFF00;
+
+/// The status of a free slot.
+pub const FREE: u16 = THREAD_FREE as u16;
+
+/// The status of a used slot.
+pub const USED: u16 = THREAD_USED as u16;
+
+/// How many threads there are.
+pub const COUNT: u16 = THREAD_COUNT as u16;
+
+/// The thread to take up later: its number and 1 more.
+pub const NEXT: u16 = NEXT_PLACE as u16;
+
+/// How many frames there are.
+pub const FRAMES: u16 = FRAME_COUNT as u16;
 
 /// The upper half of the data's addresses, 1 more since the lower half counts as negative.
 pub const DATA: u16 = 0x8001;

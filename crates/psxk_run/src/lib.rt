@@ -14,8 +14,6 @@ pub mod refusal;
 mod report;
 pub mod run;
 mod steps;
-#[cfg(test)]
-mod tests;
 pub mod top;
 
 pub use configuration::{ConfError, config};

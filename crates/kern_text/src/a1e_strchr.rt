@@ -1,0 +1,55 @@
+//! The first byte of a text that is one.
+ghost use Rattle.std.specs.Prelude.{◌≡◌, IsTrue, IfSome};
+ghost use Rattle.psx_flow.specs.Reading.{tree_of};
+ghost use Rattle.psx_flow.specs.Well.{is_well};
+ghost use Rattle.psx_flow.specs.Spaced.{is_spaced};
+ghost use Rattle.abs_kernel.specs.declared.calls.CallId.TheVariants.{A1E};
+ghost use Rattle.abs_kernel.specs.Calls.{call};
+ghost use Rattle.kern_stay.specs.Doors.{Serves, most_steps};
+ghost use Rattle.kern_text.specs.Own.{own};
+ghost use Rattle.kern_text.specs.declared.a1e_strchr.TheConstants.{NODES};
+ghost use Rattle.kern_text.specs.declared.places.TheConstants.{STRCHR};
+
+use crate::places::ROOM;
+use kern_stay::places::{BAD_POINTER, LEAVE};
+use psx_flow::{Node, Test, op, register};
+
+/// r4 is the text, r5 the byte. r8 is the address of the byte that comes, r11 where user memory ends.
+pub const NODES: [Node; 22] = [
+    Node::If(Test::Same(register!(r4), register!(r0))),
+    op!(OR r2, r0, r0),
+    Node::Jump(LEAVE),
+    Node::End,
+    op!(SLL r5, r5, 24),
+    op!(SRL r5, r5, 24),
+    op!(OR r8, r0, r4),
+    Node::Call(ROOM),
+    op!(ADDU r11, r8, r9),
+    // The bytes before r8 are user memory and neither r5 nor 0, and those up to r11 are user memory.
+    Node::While(Test::Differ(register!(r8), register!(r11))),
+    op!(LBU r12, 0(r8)),
+    op!(ADDIU r8, r8, 1),
+    Node::If(Test::Same(register!(r12), register!(r5))),
+    op!(ADDIU r2, r8, 0xFFFF),
+    Node::Jump(LEAVE),
+    Node::End,
+    Node::If(Test::Same(register!(r12), register!(r0))),
+    op!(OR r2, r0, r0),
+    Node::Jump(LEAVE),
+    Node::End,
+    Node::End,
+    Node::Jump(BAD_POINTER),
+];
+
+/// The listing of A1E, strchr(s, c), which finds c's low byte in a text, whose zero is among its bytes.
+/// The table's entry leads to it with s in r4 and c in r5, and so does that of A1C, index.
+/// It ends at LEAVE with the address of the first such byte in r2, or with 0 where there is none or s is 0; or at BAD_POINTER with the first address in r8 that isn't user memory.
+/// r5, r8 to r12 and r31 are changed too.
+pub fn strchr() -> &'static [Node]
+    ensures listing { result.now ≡ NODES }
+    ensures well { IsTrue (is_well result.now) }
+    ensures spaced { IsTrue (is_spaced result.now) }
+    ensures serves { IfSome (tree_of result.now) (λ tree. Serves own most_steps (call A1E) STRCHR tree) }
+{
+    &NODES
+}

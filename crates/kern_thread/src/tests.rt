@@ -1,0 +1,36 @@
+//! Words of the block behind `place`, encoded by hand from the R3000A manual's instruction formats.
+use crate::b0e_open_thread::open_thread;
+use crate::b0f_close_thread::close_thread;
+use crate::b10_change_thread::change_thread;
+use crate::place;
+use crate::placing::{apart, thread_serves};
+use kern_layout::KernelBlock;
+use std::test::Fail;
+
+#[test]
+fn places_the_calls(rt: HostRuntime) -> Result<(), Fail> {
+    let mut block = KernelBlock::new(rt.alloc())?;
+    place(&mut block);
+    // ChangeThread and CloseThread: lui t0, FF00h; subu t5, a0, t0.
+    assert_eq!(rt; block.word(0x2000), 0x3C08_FF00);
+    assert_eq!(rt; block.word(0x2004), 0x0088_6823);
+    assert_eq!(rt; block.word(0x2140), 0x3C08_FF00);
+    assert_eq!(rt; block.word(0x2144), 0x0088_6823);
+    // OpenThread: lui t6, 8001h; behind a load or t5, zero, zero.
+    assert_eq!(rt; block.word(0x21C0), 0x3C0E_8001);
+    assert_eq!(rt; block.word(0x21C8), 0x0000_6825);
+    Ok(())
+}
+
+#[test]
+fn lends_listings(rt: HostRuntime) {
+    assert_eq!(rt; open_thread().len(), 55);
+    assert_eq!(rt; close_thread().len(), 22);
+    assert_eq!(rt; change_thread().len(), 52);
+}
+
+#[test]
+fn laws_do_nothing() {
+    apart();
+    thread_serves();
+}
