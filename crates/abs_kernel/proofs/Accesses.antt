@@ -134,7 +134,7 @@ module _ (s : KernelState) where
       ap (λ rest. Touch 1 (if user at then read rest else bad_pointer s at)) (count_same n m k (following at) (count + 1) (following_small at) (omega (arith, p)) (omega (arith, q)) (ap user e ∙ bad))
 
 -- how far the first byte is that isn't user memory, at the most
-far_of : (at : ℕ) (b : Bool) → user at ≡ b → at < 2 ^ 32 → (k : ℕ) × (k < longest) × (user (on_from at k) ≡ false)
+pub far_of : (at : ℕ) (b : Bool) → user at ≡ b → at < 2 ^ 32 → (k : ℕ) × (k < longest) × (user (on_from at k) ≡ false)
 unfolding longest
 far_of at true u small = (0x1F0000, omega arith, past_user at u)
 far_of at false u small = (0, omega arith, ap user (first_is at small) ∙ u)

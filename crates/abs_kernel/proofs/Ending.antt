@@ -4,13 +4,15 @@ use Rattle.std.specs.Prelude.{◌||◌, nat_eq, if◌then◌else◌}
 use Rattle.psx_base.specs.declared.stop.Stop.{Stop}
 use Rattle.psx_base.specs.Memory.{Memory}
 use Rattle.psx_base.specs.Context.{Context, epc_of, taken, IsAtRest}
-use Rattle.psx_base.specs.KernelState.{Thread, KernelState}
+use Rattle.psx_base.specs.KernelState.{Thread, Event, KernelState, Heap}
 use Rattle.abs_kernel.specs.Answered.{registers_of, with_answer, answered, waits}
 use Rattle.abs_kernel.specs.Stay.{Stay}
-use Rattle.kern_layout.specs.Valid.{Valid}
+use Rattle.kern_layout.specs.Valid.{HeapFits, Valid}
 use Rattle.abs_kernel.proofs.Filed.{FilesFit}
 use Rattle.abs_kernel.proofs.Threaded.{ThreadsFit}
-use Rattle.abs_kernel.specs.Changes.{Part, ContextAlone, AndMemory, AndRandom, AndFiles, AndInput, AndLine, AndPlace, AndThreads}
+use Rattle.abs_kernel.proofs.Evented.{EventsFit}
+use Rattle.abs_kernel.proofs.Chained.{ChainsFit}
+use Rattle.abs_kernel.specs.Changes.{Part, ContextAlone, AndMemory, AndRandom, AndFiles, AndInput, AndLine, AndPlace, AndThreads, AndEvents, AndChains, AndHeap, AndHeapMemory}
 use Rattle.abs_kernel.specs.StayLaws.{EachEnd}
 
 -- a state with another running context, and interrupts on or off
@@ -44,7 +46,11 @@ Halts AndFiles Q s = (stop : Stop) → Q stop s.memory
 Halts AndInput Q s = (stop : Stop) (m : Memory) → Q stop m
 Halts AndLine Q s = (stop : Stop) (m : Memory) → Q stop m
 Halts AndThreads Q s = (stop : Stop) → Q stop s.memory
+Halts AndEvents Q s = (stop : Stop) → Q stop s.memory
+Halts AndChains Q s = (stop : Stop) (m : Memory) → Q stop m
 Halts AndPlace Q s = (stop : Stop) (m : Memory) → Q stop m
+Halts AndHeap Q s = (stop : Stop) → Q stop s.memory
+Halts AndHeapMemory Q s = (stop : Stop) (m : Memory) → Q stop m
 
 abbrev pub Returns : Part → (KernelState → Type 0) → KernelState → Type 0
 Returns ContextAlone P s = (c : Context) (on : Bool) → IsAtRest c → P (running_in s c on)
@@ -55,6 +61,10 @@ Returns AndInput P s = (m : Memory) (errno : ℕ) (c : Context) (on : Bool) → 
 Returns AndLine P s = (m : Memory) (line : List ℕ) → LineFits s line → (c : Context) (on : Bool) → IsAtRest c → P (running_in (record s { memory = m; line = line }) c on)
 Returns AndThreads P s = (threads : List Thread) (current : ℕ) (next : Option ℕ) (c : Context) (on : Bool) → (Valid s → ThreadsFit s threads current next) → (Valid s → IsAtRest c)
     → P (running_in (record s { threads = threads; current = current; next = next }) c on)
+Returns AndEvents P s = (events : List Event) (c : Context) (on : Bool) → EventsFit s.events events → IsAtRest c → P (running_in (record s { events = events }) c on)
+Returns AndChains P s = (m : Memory) (chains : List (List ℕ)) (c : Context) (on : Bool) → ChainsFit s.chains chains → IsAtRest c → P (running_in (record s { memory = m; chains = chains }) c on)
+Returns AndHeap P s = (h : Heap) (c : Context) (on : Bool) → (Valid s → HeapFits h) → IsAtRest c → P (running_in (record s { heap = h }) c on)
+Returns AndHeapMemory P s = (m : Memory) (h : Heap) (c : Context) (on : Bool) → (Valid s → HeapFits h) → IsAtRest c → P (running_in (record s { memory = m; heap = h }) c on)
 Returns AndPlace P s = (m : Memory) (place : ℕ) (c : Context) (on : Bool) → IsAtRest c → P (running_in (record s { memory = m; token = place }) c on)
 
 -- ---- a stay that changes the running context alone

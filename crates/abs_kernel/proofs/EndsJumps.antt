@@ -1,6 +1,5 @@
 -- The ends of setjmp and longjmp.
-use Rattle.std.proofs.Common.{◌≡◌, ℕ, zero, suc, Bool, true, false, List, [], ◌∷◌, refl}
-use Rattle.std.specs.Prelude.{if◌then◌else◌}
+use Rattle.std.proofs.Common.{ℕ, zero, suc, Bool, List, [], ◌∷◌}
 use Rattle.psx_base.specs.declared.stop.Stop.{Stop}
 use Rattle.psx_base.specs.Memory.{Memory, word, put_word}
 use Rattle.psx_base.specs.Addresses.{place}
@@ -10,7 +9,7 @@ use Rattle.psx_base.specs.KernelState.{KernelState}
 use Rattle.abs_kernel.specs.Answered.{registers_of, with_answer, answered}
 use Rattle.abs_kernel.specs.Stay.{Stay}
 use Rattle.abs_kernel.specs.UserWords.{user_word}
-use Rattle.abs_kernel.specs.Jumps.{following_word, writes_words, reads_words, with_registers, with_jump_words, jump_words, jumps, longjmp}
+use Rattle.abs_kernel.specs.Jumps.{following_word, writes_words, reads_words, with_registers, with_jump_words, jumps, longjmp}
 use Rattle.abs_kernel.specs.StayLaws.{EachEnd}
 use Rattle.abs_kernel.proofs.Ending.{running_in, answer_at_rest, if_ends}
 use Rattle.abs_kernel.proofs.EndsMemory.{back}

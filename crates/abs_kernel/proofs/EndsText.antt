@@ -14,7 +14,8 @@ use Rattle.abs_kernel.specs.Strcpy.{copy_text, closes, strcpy}
 use Rattle.abs_kernel.specs.Strcat.{find_end, strcat}
 use Rattle.abs_kernel.specs.Strncat.{strncat}
 use Rattle.abs_kernel.specs.Strncpy.{pads, strncpy}
-use Rattle.abs_kernel.specs.Strcmp.{difference, compare_texts}
+use Rattle.abs_kernel.specs.Memcmp.{difference}
+use Rattle.abs_kernel.specs.Strcmp.{compare_texts}
 use Rattle.abs_kernel.specs.Strchr.{find_first}
 use Rattle.abs_kernel.specs.Strrchr.{find_last}
 use Rattle.abs_kernel.specs.ByteSets.{in_set, skips}

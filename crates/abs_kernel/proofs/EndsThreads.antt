@@ -1,5 +1,5 @@
 -- The ends of the calls on threads.
-use Rattle.std.proofs.Common.{◌≡◌, ℕ, zero, suc, ◌+◌, ◌%◌, ◌^◌, ◌<◌, Bool, true, false, List, [], ◌∷◌, length, refl, sym, ap, ◌∙◌, subst, arith, ⊎_elim}
+use Rattle.std.proofs.Common.{◌≡◌, ℕ, zero, suc, ◌+◌, ◌<◌, Bool, true, false, List, [], ◌∷◌, length, refl, sym, ap, ◌∙◌, arith, ⊎_elim}
 use Rattle.std.specs.Prelude.{Option, Some, None, nat_eq, nat_lt, ◌||◌, slice_index_or, slice_set, if◌then◌else◌}
 use Rattle.std.proofs.lemmas.Bool.{false≢true, cases_lt, ltb-true}
 use Rattle.std.proofs.lemmas.List.{length-set, get_or_past}
@@ -12,8 +12,8 @@ use Rattle.kern_layout.specs.Valid.{ThreadRests, IsUsed, NextFits, Valid}
 use Rattle.abs_kernel.specs.Answered.{registers_of, answered}
 use Rattle.abs_kernel.specs.StayLaws.{EachEnd}
 use Rattle.abs_kernel.specs.Threads.{number_of, handle_of, is_used}
-use Rattle.abs_kernel.specs.CloseThread.{other_than, with_freed, close_thread}
-use Rattle.abs_kernel.specs.OpenThread.{new_thread, with_opened, opens_from, open_thread}
+use Rattle.abs_kernel.specs.CloseThread.{other_than, close_thread}
+use Rattle.abs_kernel.specs.OpenThread.{new_thread, opens_from, open_thread}
 use Rattle.abs_kernel.specs.ChangeThread.{with_next, changes_to, change_thread}
 use Rattle.abs_kernel.specs.Switching.{caller, keeps, context_of, switched}
 use Rattle.abs_kernel.proofs.Threaded.{ThreadsFit, threads_same, rests_set, next_set}

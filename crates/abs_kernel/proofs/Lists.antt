@@ -27,7 +27,7 @@ of_end P Q (Tell port value next) answers h = of_end P Q next answers h
 of_end P Q (Write byte next) answers h = of_end P Q next answers h
 of_end P Q (Touch bytes next) answers h = of_end P Q next answers h
 
-of_end_is : (P : KernelState → Type 0) (Q : Stop → Memory → Type 0) (stay : Stay) (answers : List ℕ) (end : End) → EachEnd P Q stay → (played stay answers).end ≡ end → OfEnd P Q end
+pub of_end_is : (P : KernelState → Type 0) (Q : Stop → Memory → Type 0) (stay : Stay) (answers : List ℕ) (end : End) → EachEnd P Q stay → (played stay answers).end ≡ end → OfEnd P Q end
 of_end_is P Q stay answers end h e = subst (OfEnd P Q) e (of_end P Q stay answers h)
 
 pub played_keeps : PlayedKeeps

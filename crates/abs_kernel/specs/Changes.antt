@@ -5,11 +5,12 @@ use Rattle.psx_base.specs.Context.{settle}
 use Rattle.psx_base.specs.Items.{Entrance, ByA, ByB, ByC, BySyscall, ByInterrupt, ByDone, ByBack, ByTrap}
 use Rattle.psx_base.specs.KernelState.{KernelState}
 use Rattle.abs_kernel.specs.declared.calls.CallId.{CallId}
-use Rattle.abs_kernel.specs.declared.calls.CallId.TheVariants.{A00, A02, A03, A04, A08, A09, A13, A15, A16, A19, A1A, A23, A27, A28, A2A, A2B, A2C, A2F, A30, A3D, B0E, B0F, B10, B32, B34, B35, B36, B3A, B3B, B3E}
+use Rattle.abs_kernel.specs.declared.calls.CallId.TheVariants.{A00, A02, A03, A04, A08, A09, A0C, A0D, A13, A15, A16, A19, A1A, A23, A27, A28, A2A, A2B, A2C, A2F, A30, A33, A34, A37, A38, A39, A3D, B08, B09, B0A, B0B, B0C, B0D, B0E, B0F, B10, B20, B32, B34, B35, B36, B3A, B3B, B3E, C02, C03}
 use Rattle.abs_kernel.specs.CallTable.{served_call}
 use Rattle.abs_kernel.specs.Cause.{entrance_of}
 
--- the running context alone; or beside it the user's memory, the random state, the memory and strtok's place, the files and the last error, the memory and the last error, the memory and the line, the threads
+-- The running context alone; or beside it the user's memory, the random state, the memory and strtok's place, the files and the last error, the memory and the last error, the memory and the line,
+-- the threads, the events, the memory and the chains, the heap, the memory and the heap.
 pub data Part : Type 0 where
   ContextAlone : Part
   AndMemory : Part
@@ -19,6 +20,10 @@ pub data Part : Type 0 where
   AndInput : Part
   AndLine : Part
   AndThreads : Part
+  AndEvents : Part
+  AndChains : Part
+  AndHeap : Part
+  AndHeapMemory : Part
 
 -- a call that isn't named changes the running context alone
 abbrev pub changes : CallId → Part
@@ -28,6 +33,8 @@ changes A03 = AndFiles
 changes A04 = AndFiles
 changes A08 = AndFiles
 changes A09 = AndFiles
+changes A0C = AndMemory
+changes A0D = AndMemory
 changes A13 = AndMemory
 changes A15 = AndMemory
 changes A16 = AndMemory
@@ -41,10 +48,22 @@ changes A2B = AndMemory
 changes A2C = AndMemory
 changes A2F = AndRandom
 changes A30 = AndRandom
+changes A33 = AndHeap
+changes A34 = AndHeap
+changes A37 = AndHeapMemory
+changes A38 = AndHeapMemory
+changes A39 = AndHeap
 changes A3D = AndLine
+changes B08 = AndEvents
+changes B09 = AndEvents
+changes B0A = AndEvents
+changes B0B = AndEvents
+changes B0C = AndEvents
+changes B0D = AndEvents
 changes B0E = AndThreads
 changes B0F = AndThreads
 changes B10 = AndThreads
+changes B20 = AndEvents
 changes B32 = AndFiles
 changes B34 = AndInput
 changes B35 = AndFiles
@@ -52,6 +71,8 @@ changes B36 = AndFiles
 changes B3A = AndFiles
 changes B3B = AndFiles
 changes B3E = AndLine
+changes C02 = AndChains
+changes C03 = AndChains
 changes _ = ContextAlone
 
 -- the same where no call is served
@@ -83,6 +104,10 @@ Changed AndFiles s t = t ≡ record s { running = t.running; files = t.files; er
 Changed AndInput s t = t ≡ record s { running = t.running; memory = t.memory; errno = t.errno }
 Changed AndLine s t = t ≡ record s { running = t.running; memory = t.memory; line = t.line }
 Changed AndThreads s t = t ≡ record s { running = t.running; threads = t.threads; current = t.current; next = t.next }
+Changed AndEvents s t = t ≡ record s { running = t.running; events = t.events }
+Changed AndChains s t = t ≡ record s { running = t.running; memory = t.memory; chains = t.chains }
+Changed AndHeap s t = t ≡ record s { running = t.running; heap = t.heap }
+Changed AndHeapMemory s t = t ≡ record s { running = t.running; memory = t.memory; heap = t.heap }
 Changed AndPlace s t = t ≡ record s { running = t.running; memory = t.memory; token = t.token }
 
 -- another thread's context may be taken up by the calls on threads alone
@@ -98,4 +123,8 @@ keeps_memory AndFiles = true
 keeps_memory AndInput = false
 keeps_memory AndLine = false
 keeps_memory AndThreads = true
+keeps_memory AndEvents = true
+keeps_memory AndChains = false
 keeps_memory AndPlace = false
+keeps_memory AndHeap = true
+keeps_memory AndHeapMemory = false

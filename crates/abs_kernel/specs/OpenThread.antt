@@ -1,5 +1,5 @@
 -- OpenThread (PSX-SPX, Kernel (BIOS), Thread Functions: OpenThread). The slot of the running thread isn't taken, also where it is free.
-use Rattle.std.specs.Prelude.{ℕ, zero, suc, ◌+◌, ◌-◌, ◌%◌, ◌^◌, Bool, true, false, ◌||◌, nat_eq, length, slice_set, None, if◌then◌else◌}
+use Rattle.std.specs.Prelude.{ℕ, zero, suc, ◌+◌, ◌-◌, ◌%◌, ◌^◌, true, false, ◌||◌, nat_eq, length, slice_set, None, if◌then◌else◌}
 use Rattle.psx_base.specs.Registers.{no_registers}
 use Rattle.psx_base.specs.KernelState.{ThreadContext, Used, KernelState}
 use Rattle.kern_layout.specs.Reads.{thread}

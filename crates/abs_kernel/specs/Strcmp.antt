@@ -1,13 +1,10 @@
 -- strcmp and strncmp (PSX-SPX, Kernel (BIOS), String functions: strcmp, strncmp). A pointer 0 answers 0 and touches nothing; the count is signed.
-use Rattle.std.specs.Prelude.{ℕ, zero, suc, ◌+◌, ◌-◌, ◌%◌, ◌^◌, ◌||◌, nat_eq, if◌then◌else◌}
+use Rattle.std.specs.Prelude.{ℕ, zero, suc, ◌||◌, nat_eq, if◌then◌else◌}
 use Rattle.psx_base.specs.KernelState.{KernelState}
 use Rattle.abs_kernel.specs.Stay.{Stay}
 use Rattle.abs_kernel.specs.Answered.{registers_of, answered}
 use Rattle.abs_kernel.specs.UserBytes.{reads_byte, following, count_of, longest}
-
--- a byte less another, as a number of 32 bits with sign
-abbrev pub difference : (x y : ℕ) → ℕ
-difference x y = (x + 2 ^ 32 - y) % 2 ^ 32
+use Rattle.abs_kernel.specs.Memcmp.{difference}
 
 -- Two texts are compared byte by byte, n bytes at most: the difference of the first two bytes that differ, or 0 where both texts end or no more bytes are to come.
 abbrev pub compare_texts : (n : ℕ) → KernelState → (a b : ℕ) → Stay

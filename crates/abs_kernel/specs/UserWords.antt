@@ -1,4 +1,4 @@
--- What a call reads and writes of the user's memory word by word, by the rule of accesses in UserBytes. A word access also stops where its address isn't a multiple of 4 (PSX-SPX, Kernel (BIOS)).
+-- What a call reads, writes and tests of the user's memory word by word, by the rule of accesses in UserBytes. A word access also stops where its address isn't a multiple of 4 (PSX-SPX, Kernel (BIOS)).
 use Rattle.std.specs.Prelude.{ℕ, ◌%◌, Bool, ◌&&◌, nat_eq, if◌then◌else◌}
 use Rattle.psx_base.specs.Addresses.{place, user}
 use Rattle.psx_base.specs.Memory.{word, put_word}
@@ -21,3 +21,7 @@ with_word s at value = record s { memory = put_word s.memory (place at) value }
 -- a word is written, and the stay goes on from the new state
 abbrev pub writes_word : KernelState → (at value : ℕ) → (KernelState → Stay) → Stay
 writes_word s at value next = Touch 4 (if user_word at then next (with_word s at value) else bad_pointer s at)
+
+-- a word is tested, and neither read nor written
+abbrev pub tests_word : KernelState → (at : ℕ) → Stay → Stay
+tests_word s at next = Touch 4 (if user_word at then next else bad_pointer s at)

@@ -21,6 +21,18 @@ pub enum CallId {
     A08,
     /// putc(c, f): writes the low byte to a file, and answers it.
     A09,
+    /// strtoul(s, end, base): the same as strtol.
+    A0C,
+    /// strtol(s, end, base): the number that s begins with; where end isn't 0, the address of the rest is written there.
+    A0D,
+    /// abs(a): a without its sign.
+    A0E,
+    /// labs(a): the same as abs.
+    A0F,
+    /// atoi(s): the decimal number that s begins with.
+    A10,
+    /// atol(s): the same as atoi.
+    A11,
     /// setjmp(buf): writes the registers that longjmp brings back, and answers 0.
     A13,
     /// longjmp(buf, v): goes on where setjmp returned to, with v as the answer.
@@ -81,6 +93,16 @@ pub enum CallId {
     A2F,
     /// srand(x): sets the random state.
     A30,
+    /// malloc(n): the address of a block of n bytes, or 0.
+    A33,
+    /// free(p): the block at p is free.
+    A34,
+    /// calloc(a, b): as malloc of a * b bytes, which become 0.
+    A37,
+    /// realloc(p, n): a block of n bytes for the one at p, with its bytes, or 0.
+    A38,
+    /// InitHeap(p, n): the heap is the n bytes from p on, and all of it is free.
+    A39,
     /// _exit(code): the same.
     A3A,
     /// getchar(): waits for a byte of the console, and answers it.
@@ -93,12 +115,26 @@ pub enum CallId {
     A3E,
     /// FlushCache(): nothing, since there is no cache.
     A44,
+    /// OpenEvent(class, spec, mode, function): an event's handle, or -1 where no slot is free.
+    B08,
+    /// CloseEvent(h): frees the event's slot, and answers 1.
+    B09,
+    /// WaitEvent(h): waits while the event is busy, and answers 1 where it is ready, else 0.
+    B0A,
+    /// TestEvent(h): 1 where the event is ready, which makes it busy, else 0.
+    B0B,
+    /// EnableEvent(h): makes the event busy, and answers 1.
+    B0C,
+    /// DisableEvent(h): disables the event, and answers 1.
+    B0D,
     /// OpenThread(pc, sp, gp): a thread's handle, or -1 where no slot is left.
     B0E,
     /// CloseThread(h): frees the thread's slot, and answers 1.
     B0F,
     /// ChangeThread(h): the thread goes on, and the caller where it is taken up again, with the answer 1.
     B10,
+    /// UnDeliverEvent(class, spec): ready events of a class and spec become busy, where a delivery marks them.
+    B20,
     /// open(name, mode), in table B.
     B32,
     /// read(f, p, n), in table B.
@@ -123,13 +159,17 @@ pub enum CallId {
     B3F,
     /// GetLastError(): the last errno.
     B54,
+    /// SysEnqIntRP(p, e): the element at e becomes the head of chain p, and the answer is 0, or -1 where no room is.
+    C02,
+    /// SysDeqIntRP(p, e): takes the first element that is e out of chain p, and answers 0, or -1 where none is.
+    C03,
 }
 
 /// A row of the calls: its table, its number in r9, the call, how many arguments it takes, and its name.
 pub type Row = (Table, u32, CallId, u32, &'static str);
 
 /// The calls that are served, by table and number. A call stands here and nowhere else: what a number means, a call's arguments and its name are read from this list.
-pub const ROWS: [Row; 58] = [
+pub const ROWS: [Row; 78] = [
     (Table::A, 0x00, CallId::A00, 2, "open"),
     (Table::A, 0x02, CallId::A02, 3, "read"),
     (Table::A, 0x03, CallId::A03, 3, "write"),
@@ -137,6 +177,12 @@ pub const ROWS: [Row; 58] = [
     (Table::A, 0x06, CallId::A06, 1, "exit"),
     (Table::A, 0x08, CallId::A08, 1, "getc"),
     (Table::A, 0x09, CallId::A09, 2, "putc"),
+    (Table::A, 0x0C, CallId::A0C, 3, "strtoul"),
+    (Table::A, 0x0D, CallId::A0D, 3, "strtol"),
+    (Table::A, 0x0E, CallId::A0E, 1, "abs"),
+    (Table::A, 0x0F, CallId::A0F, 1, "labs"),
+    (Table::A, 0x10, CallId::A10, 1, "atoi"),
+    (Table::A, 0x11, CallId::A11, 1, "atol"),
     (Table::A, 0x13, CallId::A13, 1, "setjmp"),
     (Table::A, 0x14, CallId::A14, 2, "longjmp"),
     (Table::A, 0x15, CallId::A15, 2, "strcat"),
@@ -167,15 +213,27 @@ pub const ROWS: [Row; 58] = [
     (Table::A, 0x2E, CallId::A2E, 3, "memchr"),
     (Table::A, 0x2F, CallId::A2F, 0, "rand"),
     (Table::A, 0x30, CallId::A30, 1, "srand"),
+    (Table::A, 0x33, CallId::A33, 1, "malloc"),
+    (Table::A, 0x34, CallId::A34, 1, "free"),
+    (Table::A, 0x37, CallId::A37, 2, "calloc"),
+    (Table::A, 0x38, CallId::A38, 2, "realloc"),
+    (Table::A, 0x39, CallId::A39, 2, "InitHeap"),
     (Table::A, 0x3A, CallId::A3A, 1, "_exit"),
     (Table::A, 0x3B, CallId::A3B, 0, "getchar"),
     (Table::A, 0x3C, CallId::A3C, 1, "putchar"),
     (Table::A, 0x3D, CallId::A3D, 1, "gets"),
     (Table::A, 0x3E, CallId::A3E, 1, "puts"),
     (Table::A, 0x44, CallId::A44, 0, "FlushCache"),
+    (Table::B, 0x08, CallId::B08, 4, "OpenEvent"),
+    (Table::B, 0x09, CallId::B09, 1, "CloseEvent"),
+    (Table::B, 0x0A, CallId::B0A, 1, "WaitEvent"),
+    (Table::B, 0x0B, CallId::B0B, 1, "TestEvent"),
+    (Table::B, 0x0C, CallId::B0C, 1, "EnableEvent"),
+    (Table::B, 0x0D, CallId::B0D, 1, "DisableEvent"),
     (Table::B, 0x0E, CallId::B0E, 3, "OpenThread"),
     (Table::B, 0x0F, CallId::B0F, 1, "CloseThread"),
     (Table::B, 0x10, CallId::B10, 1, "ChangeThread"),
+    (Table::B, 0x20, CallId::B20, 2, "UnDeliverEvent"),
     (Table::B, 0x32, CallId::B32, 2, "open"),
     (Table::B, 0x34, CallId::B34, 3, "read"),
     (Table::B, 0x35, CallId::B35, 3, "write"),
@@ -188,6 +246,8 @@ pub const ROWS: [Row; 58] = [
     (Table::B, 0x3E, CallId::B3E, 1, "gets"),
     (Table::B, 0x3F, CallId::B3F, 1, "puts"),
     (Table::B, 0x54, CallId::B54, 0, "GetLastError"),
+    (Table::C, 0x02, CallId::C02, 2, "SysEnqIntRP"),
+    (Table::C, 0x03, CallId::C03, 2, "SysDeqIntRP"),
 ];
 
 /// The rows stand in rising order of table and number, so no number has two. Each call has exactly one row, and no row is a SYSCALL's.

@@ -4,7 +4,10 @@ ghost use Rattle.abs_kernel.specs.StayLaws.{UnservedStops, MemoryKept, RestKept,
 ghost use Rattle.abs_kernel.specs.PlayedLaws.{PlayedKeeps, HaltedKeeps, AnswersInOrder, MoreAnswers, EnoughAnswers};
 ghost use Rattle.abs_kernel.specs.AccessLaws.{TestsPass, TestsStop, WordsWithin, WordsStay, TextsEnd};
 ghost use Rattle.abs_kernel.specs.ProgramLaws.{InterruptsGivenBack, EnteredAgain};
+ghost use Rattle.abs_kernel.specs.WorkLaws.{WorkKeepsValid, BackKeepsValid, DeliveryKeepsValid, DeliversToAll, DeliversToTheLast, DeliversToACall, LastInFirstOut, GoesOnWithLast, TakenUpAsKept, CallbackLeavesNothing};
 ghost use Rattle.abs_kernel.specs.UserLaws.{UserStepKeepsValid};
+ghost use Rattle.abs_kernel.specs.ThreadLaws.{OneHandle, BadHandleStops, OpensLowest, UsedStay, ChangesBack};
+ghost use Rattle.abs_kernel.specs.Numeral.{NumeralIsOne};
 
 /// After an entry the processor has it in Cause, EPC and its registers, and by these it can be told by what the kernel was entered.
 ///
@@ -60,4 +63,44 @@ pub fn user_accesses()
     ensures within { WordsWithin }
     ensures again { WordsStay }
     ensures texts { TextsEnd }
+{}
+
+/// The calls on threads. Each thread has one handle, and one out of range stops CloseThread and ChangeThread with itself and r31, the user's memory as it is; so does a free slot's ChangeThread.
+/// OpenThread takes the lowest free slot that isn't the running thread's and answers its handle, and FFFFFFFFh where there is none; the running slot and those that are used stay.
+/// A thread that changes to another and isn't closed goes on, whatever runs between in other threads, as if the call had answered 1.
+/// Its registers, HI, LO and interrupts are its own, but for r2, k0 and k1.
+pub fn threads()
+    ensures handle { OneHandle }
+    ensures bad { BadHandleStops }
+    ensures opens { OpensLowest }
+    ensures used { UsedStay }
+    ensures back { ChangesBack }
+{}
+
+/// The numeral of a word in a base: its digits are below the base, the sum of them times the powers of their places is the word, and no fewer digits stand for it.
+pub fn numerals()
+    ensures { NumeralIsOne }
+{}
+
+/// Tasks keep a valid state valid and end at rest: of any stay, of the return of a callback, and of a delivery.
+pub fn tasks()
+    ensures works { WorkKeepsValid }
+    ensures back { BackKeepsValid }
+    ensures delivers { DeliveryKeepsValid }
+{}
+
+/// A delivery makes ready exactly the busy events of mode 2000h with its class and spec: in one stay where none has a function to be called,
+/// and else over the stays up to the last callback's return, going on behind each event whose function was called with the events as they are then.
+pub fn deliveries()
+    ensures all { DeliversToAll }
+    ensures last { DeliversToTheLast }
+    ensures call { DeliversToACall }
+{}
+
+/// Frames are last in, first out, whatever the callbacks between have done, and the context that a frame keeps is taken up as it was.
+pub fn callbacks()
+    ensures frames { LastInFirstOut }
+    ensures goes_on { GoesOnWithLast }
+    ensures context { TakenUpAsKept }
+    ensures nothing { CallbackLeavesNothing }
 {}

@@ -5,7 +5,9 @@
 
 pub mod calls;
 pub mod equations;
+pub mod heap_laws;
 pub mod laws;
+pub mod printf_laws;
 #[cfg(test)]
 mod tests;
 

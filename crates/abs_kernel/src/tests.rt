@@ -29,11 +29,11 @@ fn a_number_is_served_by_the_whole_of_it_and_its_table(rt: HostRuntime) -> Resul
     for (table, number, id, _, _) in ROWS {
         assert!(rt; served(table, number) == Some(id));
         assert!(rt; served(table, number | 0x1000_0000) == None);
-        assert!(rt; served(Table::C, number) == None);
         assert!(rt; served(Table::Sys, number) == None);
     }
-    assert!(rt; served(Table::A, 0x3D) == None);
-    assert!(rt; served(Table::B, 0x3C) == None);
+    assert!(rt; served(Table::A, 0x45) == None);
+    assert!(rt; served(Table::B, 0x21) == None);
+    assert!(rt; served(Table::C, 0x06) == None);
     Ok(())
 }
 
@@ -49,8 +49,11 @@ fn some_calls_have_the_arguments_and_names_of_the_public_tables(
         (CallId::A2B, 3, "memset"),
         (CallId::A2F, 0, "rand"),
         (CallId::A3A, 1, "_exit"),
+        (CallId::B08, 4, "OpenEvent"),
+        (CallId::B20, 2, "UnDeliverEvent"),
         (CallId::B3D, 1, "putchar"),
         (CallId::B3F, 1, "puts"),
+        (CallId::C02, 2, "SysEnqIntRP"),
     ];
     for (id, arguments, text) in calls {
         assert_eq!(rt; args(id), arguments);
