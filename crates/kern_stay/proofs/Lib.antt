@@ -14,7 +14,9 @@ pub mod Passing
 pub mod Asking
 pub mod LineHolding
 pub mod Copying
+pub mod CopyingHalf
 pub mod Switching
 pub mod Serving
 pub mod UserWords
 pub mod AreaStored
+pub mod Tested

@@ -5,5 +5,6 @@ pub mod Words
 pub mod Doors
 pub mod Loops
 pub mod Copy
+pub mod CopyHalf
 pub mod Switch
 pub mod Served

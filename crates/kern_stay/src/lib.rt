@@ -2,6 +2,7 @@
 #![tactic(auto)]
 
 pub mod copy;
+pub mod copy_half;
 pub mod places;
 pub mod placing;
 pub mod room;

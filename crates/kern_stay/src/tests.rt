@@ -1,5 +1,6 @@
 //! Words of the listings that each crate places, encoded by hand from the R3000A manual's instruction formats.
 use crate::copy::{copy, switches};
+use crate::copy_half::copy_half;
 use crate::placing::{put_listing, put_words};
 use crate::room::{room, room_is_left};
 use kern_layout::KernelBlock;
@@ -10,6 +11,7 @@ fn places_listings(rt: HostRuntime) -> Result<(), Fail> {
     let mut block = KernelBlock::new(rt.alloc())?;
     put_listing(&mut block, 0x8000_3C00, room());
     put_listing(&mut block, 0x8000_3D00, copy());
+    put_listing(&mut block, 0x8000_3F00, copy_half());
     put_words(&mut block, 0x3E00, &[0x0000_000C, 0x4200_0010]);
     // ROOM: lui r10, 8001h; subu r10, r8, r10.
     assert_eq!(rt; block.word(0x3C00), 0x3C0A_8001);
@@ -18,6 +20,12 @@ fn places_listings(rt: HostRuntime) -> Result<(), Fail> {
     assert_eq!(rt; block.word(0x3D00), 0x110A_0007);
     assert_eq!(rt; block.word(0x3D04), 0);
     assert_eq!(rt; block.word(0x3D08), 0x8D0C_0000);
+    // COPY_HALF: lw r10, 0(r8); lw r11, 4(r8); sw r10, 0(r9); at its end addiu r9, r9, 68; jr r31.
+    assert_eq!(rt; block.word(0x3F00), 0x8D0A_0000);
+    assert_eq!(rt; block.word(0x3F04), 0x8D0B_0004);
+    assert_eq!(rt; block.word(0x3F08), 0xAD2A_0000);
+    assert_eq!(rt; block.word(0x3F94), 0x2529_0044);
+    assert_eq!(rt; block.word(0x3F98), 0x03E0_0008);
     // syscall; rfe.
     assert_eq!(rt; block.word(0x3E00), 0x0000_000C);
     assert_eq!(rt; block.word(0x3E04), 0x4200_0010);

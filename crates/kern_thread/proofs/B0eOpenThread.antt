@@ -1,14 +1,13 @@
 -- OpenThread meets its stay.
-use Rattle.psx_flow.proofs.Kit.{◌≡◌, ℕ, suc, ◌+◌, ◌-◌, ◌*◌, ◌%◌, ◌^◌, ◌<◌, ◌≤◌, [], refl, sym, ap, ◌∙◌, subst, arith, ⊎_elim, Memory, byte, word, put_word, place, Run, Goal, Calls, calls, kernel_words, fair, start, true, false}
+use Rattle.psx_flow.proofs.Kit.{◌≡◌, ℕ, suc, ◌+◌, ◌-◌, ◌*◌, ◌%◌, ◌<◌, ◌≤◌, [], refl, sym, ap, ◌∙◌, subst, arith, ⊎_elim, Memory, word, Run, Goal, Calls, calls, kernel_words, fair, start, true, false}
 use Rattle.std.proofs.Common.{zero, length, ◌∷◌, ne_eqb, eq-eqb}
 use Rattle.std.proofs.lemmas.Bool.{cases_eq}
 use Rattle.std.specs.Prelude.{Bool, ◌||◌, nat_eq, if◌then◌else◌}
 use Rattle.psx_base.specs.KernelState.{Thread, Free, Used, KernelState}
 use Rattle.psx_flow.specs.Told.{ports}
 use Rattle.kern_layout.specs.Fields.{Fields, Block}
-use Rattle.kern_layout.specs.Contexts.{saved, thread_fields}
+use Rattle.kern_layout.specs.Contexts.{saved}
 use Rattle.kern_layout.specs.Reads.{thread, thread_at}
-use Rattle.abs_kernel.specs.Stay.{Stay}
 use Rattle.abs_kernel.specs.Answered.{registers_of, answered}
 use Rattle.abs_kernel.specs.Threads.{handle_of, is_used}
 use Rattle.abs_kernel.specs.OpenThread.{new_thread, with_opened, opens_from, open_thread}
@@ -21,7 +20,7 @@ use Rattle.kern_stay.proofs.Looping.{Turning, looped}
 use Rattle.kern_thread.specs.declared.places.TheConstants.{OPEN_THREAD}
 use Rattle.kern_thread.specs.declared.b0e_open_thread.TheConstants.{NODES}
 use Rattle.kern_thread.proofs.ThreadsHeld.{status_of, status_is, holds_thread}
-use Rattle.kern_thread.proofs.Stores.{stores, stores_there, stores_placed, each_apart, stores_words, stores_bytes, stores_block, To, to}
+use Rattle.kern_thread.proofs.Stores.{stores, stores_there, stores_placed, stores_words, stores_bytes, stores_block, to}
 
 -- the slots from n on, where there is one
 takes : (k n : ℕ) (s : KernelState) (b : Bool) → 0 < k → (is_used (thread s n) || nat_eq n s.current) ≡ b

@@ -21,13 +21,14 @@ use Rattle.kern_stay.specs.Shared.{tree, tested_there}
 use Rattle.kern_stay.specs.Copy.{WordsCopied}
 use Rattle.kern_stay.specs.Switch.{settle_area, SlotKept}
 use Rattle.kern_stay.specs.Doors.{Holds, Ends, Arrives, Through, Serves, called_with, begun, most_steps}
-use Rattle.kern_stay.proofs.Copying.{KnowsCopy, knows_copy}
+use Rattle.kern_stay.specs.CopyHalf.{Halves}
+use Rattle.kern_stay.proofs.CopyingHalf.{KnowsHalf, knows_half, both_copied}
 use Rattle.kern_stay.proofs.Switching.{made, rests, rest_taken}
 use Rattle.kern_stay.proofs.Ending.{through, answers, refuses_thread}
 use Rattle.kern_stay.proofs.RoomGiven.{true_then, false_then}
 use Rattle.kern_stay.specs.declared.places.TheConstants.{WAIT}
 use Rattle.kern_thread.specs.Own.{own}
-use Rattle.kern_thread.specs.declared.places.TheConstants.{CHANGE_THREAD, COPY}
+use Rattle.kern_thread.specs.declared.places.TheConstants.{CHANGE_THREAD, COPY_HALF}
 use Rattle.kern_thread.specs.declared.b10_change_thread.TheConstants.{NODES}
 use Rattle.kern_thread.proofs.ThreadsHeld.{block_of, at_thread, status_of, status_is, used_as, holds_next}
 
@@ -43,6 +44,30 @@ kept_free m at (Used u) ne = absurd (ne refl)
 free_is : (t : Thread) → (status_of t ≡ 0x4000 → ⊥) → is_used t ≡ false
 free_is Free ne = refl
 free_is (Used u) ne = absurd (ne refl)
+
+-- the halves of the work area's context and of a slot's, as they are copied
+record SlotHalves (p : ℕ) : Type 0 where
+  kept : Halves 0xEB0C (p + 0xC)
+  kept_on : Halves (0xEB0C + 68) (p + 0xC + 68)
+  kept_whole : (x y z : Memory) → WordsCopied x y 0xEB0C (p + 0xC) 18 → WordsCopied y z (0xEB0C + 68) (p + 0xC + 68) 18 → WordsCopied x z 0xEB0C (p + 0xC) 35
+  taken : Halves (p + 0xC) 0xEB0C
+  taken_on : Halves (p + 0xC + 68) (0xEB0C + 68)
+  taken_whole : (x y z : Memory) → WordsCopied x y (p + 0xC) 0xEB0C 18 → WordsCopied y z (p + 0xC + 68) (0xEB0C + 68) 18 → WordsCopied x z (p + 0xC) 0xEB0C 35
+
+slot_halves : (n : ℕ) → n < 16 → SlotHalves (thread_at n)
+slot_halves n lt =
+    let p : ℕ = thread_at n in
+    let even : p % 4 ≡ 0 = omega arith in
+    let low : 0xB000 ≤ p = omega arith in
+    let high : p + 0xC0 ≤ 0xBC00 = omega (arith, lt) in
+    record {
+      kept = record { even = (refl, omega (arith, even)); low = (omega arith, omega (arith, low)); high = (omega arith, omega (arith, high)); apart = inr (omega (arith, high)) };
+      kept_on = record { even = (refl, omega (arith, even)); low = (omega arith, omega (arith, low)); high = (omega arith, omega (arith, high)); apart = inr (omega (arith, high)) };
+      kept_whole = λ x y z. both_copied x y z 0xEB0C (p + 0xC) (refl, omega (arith, even)) (inr (omega (arith, high)));
+      taken = record { even = (omega (arith, even), refl); low = (omega (arith, low), omega arith); high = (omega (arith, high), omega arith); apart = inl (omega (arith, high)) };
+      taken_on = record { even = (omega (arith, even), refl); low = (omega (arith, low), omega arith); high = (omega (arith, high), omega arith); apart = inl (omega (arith, high)) };
+      taken_whole = λ x y z. both_copied x y z (p + 0xC) 0xEB0C (omega (arith, even), refl) (inl (omega (arith, high)));
+    }
 
 no_frames : (fs : List Frame) → length fs ≡ 0 → fs ≡ []
 no_frames [] e = refl
@@ -100,13 +125,14 @@ module _ (s : KernelState) (m : Memory) (h : Arrives s m) (n : ℕ) (number : nu
   pub meets : (d : Registers) (z : Cop0) → Meets kernel_words (calls kernel_words (own ++ tested_there)) (tree NODES) CHANGE_THREAD (λ _. ⊥)
       (λ to e. Through (change_thread s) most_steps to e) (begun (called_with (registers_of s) d) z m)
   meets d z =
-      let know : KnowsCopy COPY (calls kernel_words (own ++ tested_there)) = knows_copy COPY tested_there in
+      let know : KnowsHalf COPY_HALF (calls kernel_words (own ++ tested_there)) = knows_half COPY_HALF tested_there in
       let valid = h.valid in
       let cur : word m 0xEA00 ≡ s.current = h.holds.reads.variables.0 in
       let frames : word m 0xEA08 ≡ length s.frames = h.holds.reads.variables.1.1.0 in
       let count : word m 0xEA0C ≡ length s.threads = h.holds.reads.variables.1.1.1.0 in
       let now : s.current < 16 = omega (arith, valid.current, valid.threads_most) in
       let b = at_thread s.current now in
+      let mine = slot_halves s.current now in
       let at : ℕ = thread_at s.current in
       let to : ℕ = thread_at n in
       let block : block_of (word m 0xEA00) ≡ 0x80000000 + at = ap block_of cur ∙ b.block in
@@ -121,6 +147,7 @@ module _ (s : KernelState) (m : Memory) (h : Arrives s m) (n : ℕ) (number : nu
             let few : n < length s.threads = omega (arith, lt, count) in
             let small : n < 16 = omega (arith, few, valid.threads_most) in
             let a = at_thread n small in
+            let its = slot_halves n small in
             let status = status_is s m h.holds n few in
             let more : (n + 1) % 2 ^ 32 ≡ suc n = omega (arith, small) in
             rw (a.block, a.here, a.sort, a.place) (
@@ -136,42 +163,18 @@ module _ (s : KernelState) (m : Memory) (h : Arrives s m) (n : ℕ) (number : nu
                     λ none.
                         let nf = no_frames s.frames (sym frames ∙ none) in
                         rw (block, b.here, b.sort, b.place) (
-                          λ used. know.copy _ _ _ _ _ _ _ 0xEB0C (at + 0xC) 35
-                              (record {
-                                r8 = refl;
-                                r9 = omega (arith, now);
-                                r10 = refl;
-                                even = (refl, omega arith);
-                                low = (omega arith, omega arith);
-                                high = (omega arith, omega (arith, now));
-                                apart = inr (omega (arith, now));
-                              })
-                              (λ first x y v seen passed c1 q1 p1. know.copy _ _ _ _ _ _ _ (to + 0xC) 0xEB0C 35
-                              (record {
-                                r8 = omega (arith, small);
-                                r9 = refl;
-                                r10 = omega (arith, small);
-                                even = (omega arith, refl);
-                                low = (omega arith, omega arith);
-                                high = (omega (arith, small), omega arith);
-                                apart = inl (omega (arith, small));
-                              })
-                              (λ filled x2 y2 v2 seen2 passed2 c2 q2 p2.
+                          λ used. know.half _ _ _ _ _ _ _ 0xEB0C (at + 0xC) mine.kept (record { r8 = refl; r9 = omega (arith, now) })
+                              (λ _ _ _ _ _ _ _ x1 y1 c1 q1 p1. know.half _ _ _ _ _ _ _ (0xEB0C + 68) (at + 0xC + 68) mine.kept_on (record { r8 = x1; r9 = y1 })
+                              (λ first _ _ _ _ _ _ x2 y2 c2 q2 p2. know.half _ _ _ _ _ _ _ (to + 0xC) 0xEB0C its.taken (record { r8 = omega (arith, small); r9 = refl })
+                              (λ _ _ _ _ _ _ _ x3 y3 c3 q3 p3. know.half _ _ _ _ _ _ _ (to + 0xC + 68) (0xEB0C + 68) its.taken_on (record { r8 = x3; r9 = y3 })
+                              (λ filled _ _ _ _ _ _ x4 y4 c4 q4 p4.
                               done few u.context u.is nf first (kept_used ready first at (thread s s.current) (sym old ∙ used)
-                              (subst (λ y. WordsCopied y first 0xEB0C (at + 0xC) 35) settled c1)) filled c2 _ refl (q2 ∙ q1) (omega (arith, p1, p2)))),
-                          λ free. know.copy _ _ _ _ _ _ _ (to + 0xC) 0xEB0C 35
-                              (record {
-                                r8 = omega (arith, small);
-                                r9 = refl;
-                                r10 = omega (arith, small);
-                                even = (omega arith, refl);
-                                low = (omega arith, omega arith);
-                                high = (omega (arith, small), omega arith);
-                                apart = inl (omega (arith, small));
-                              })
-                              (λ filled x2 y2 v2 seen2 passed2 c2 q2 p2.
+                              (subst (λ y. WordsCopied y first 0xEB0C (at + 0xC) 35) settled (mine.kept_whole _ _ _ c1 c2))) filled (its.taken_whole _ _ _ c3 c4) _ refl (q4 ∙ q3 ∙ q2 ∙ q1) (omega (arith, p1, p2, p3, p4)))))),
+                          λ free. know.half _ _ _ _ _ _ _ (to + 0xC) 0xEB0C its.taken (record { r8 = omega (arith, small); r9 = refl })
+                              (λ _ _ _ _ _ _ _ x3 y3 c3 q3 p3. know.half _ _ _ _ _ _ _ (to + 0xC + 68) (0xEB0C + 68) its.taken_on (record { r8 = x3; r9 = y3 })
+                              (λ filled _ _ _ _ _ _ x4 y4 c4 q4 p4.
                               done few u.context u.is nf ready (kept_free ready at (thread s s.current) (λ e. free (old ∙ e))) filled
-                              (subst (λ y. WordsCopied y filled (to + 0xC) 0xEB0C 35) settled c2) _ refl q2 (omega (arith, p2))),
+                              (subst (λ y. WordsCopied y filled (to + 0xC) 0xEB0C 35) settled (its.taken_whole _ _ _ c3 c4)) _ refl (q4 ∙ q3) (omega (arith, p3, p4)))),
                         ),
                   ),
               λ free. through stay most_steps _ _ refl (refuses_thread most_steps s _ stay (stay_by false (free_is (thread s n) (λ e. free (status ∙ e)))) h.holds (omega arith)),

@@ -9,10 +9,10 @@ use Rattle.abs_kernel.specs.ChangeThread.{change_thread}
 use Rattle.kern_stay.specs.Words.{Stand}
 use Rattle.kern_stay.specs.Doors.{IsServed, most_steps}
 use Rattle.kern_stay.specs.Shared.{tree}
-use Rattle.kern_stay.specs.declared.copy.TheConstants.{COPY_NODES}
+use Rattle.kern_stay.specs.declared.copy_half.TheConstants.{COPY_HALF_NODES}
 use Rattle.kern_stay.proofs.Standing.{placed_by}
 use Rattle.kern_stay.proofs.Serving.{served_by}
-use Rattle.kern_thread.specs.declared.places.TheConstants.{CHANGE_THREAD, COPY, CLOSE_THREAD, OPEN_THREAD}
+use Rattle.kern_thread.specs.declared.places.TheConstants.{CHANGE_THREAD, COPY_HALF, CLOSE_THREAD, OPEN_THREAD}
 use Rattle.kern_thread.specs.declared.b10_change_thread.TheConstants as change_thread_is
 use Rattle.kern_thread.specs.declared.b0f_close_thread.TheConstants as close_thread_is
 use Rattle.kern_thread.specs.declared.b0e_open_thread.TheConstants as open_thread_is
@@ -24,7 +24,7 @@ use Rattle.kern_thread.proofs.B0fCloseThread as of_close_thread
 use Rattle.kern_thread.proofs.B0eOpenThread as of_open_thread
 
 own_placed : (m : Memory) → Stand (word m) thread_pieces → ArePlaced kernel_words m own
-own_placed m r = (placed_by m COPY (tree COPY_NODES) refl refl refl refl (r.1.0), tt)
+own_placed m r = (placed_by m COPY_HALF (tree COPY_HALF_NODES) refl refl refl refl (r.1.0), tt)
 
 change_thread_served : (m : Memory) → Stand (word m) thread_pieces → IsServed m most_steps change_thread CHANGE_THREAD
 change_thread_served m r = served_by m most_steps change_thread CHANGE_THREAD own (tree change_thread_is.NODES) refl refl refl refl refl (own_placed m r) (r.0) of_change_thread.serves

@@ -2,8 +2,8 @@
 use Rattle.std.specs.Prelude.{ℕ, List, [], ◌∷◌}
 use Rattle.psx_flow.specs.Tree.{Tree}
 use Rattle.kern_stay.specs.Shared.{tree}
-use Rattle.kern_stay.specs.declared.copy.TheConstants.{COPY_NODES}
-use Rattle.kern_thread.specs.declared.places.TheConstants.{COPY}
+use Rattle.kern_stay.specs.declared.copy_half.TheConstants.{COPY_HALF_NODES}
+use Rattle.kern_thread.specs.declared.places.TheConstants.{COPY_HALF}
 
 abbrev pub own : List (ℕ × Tree)
-own = (COPY, tree COPY_NODES) ∷ []
+own = (COPY_HALF, tree COPY_HALF_NODES) ∷ []

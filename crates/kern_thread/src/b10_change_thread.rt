@@ -11,7 +11,7 @@ ghost use Rattle.kern_thread.specs.declared.b10_change_thread.TheConstants.{NODE
 ghost use Rattle.kern_thread.specs.declared.places.TheConstants.{CHANGE_THREAD};
 
 use crate::places;
-use crate::places::COPY;
+use crate::places::COPY_HALF;
 use kern_stay::places::{BAD_THREAD, LEAVE, WAIT};
 use psx_flow::{Node, Test, op, register};
 
@@ -56,15 +56,15 @@ pub const NODES: [Node; 52] = [
     // The running slot keeps the caller, where it is used.
     Node::If(Test::Same(register!(r18), register!(r19))),
     op!(OR r8, r0, r14),
-    op!(ADDIU r10, r14, 140),
     op!(ADDIU r9, r17, 0xC),
-    Node::Call(COPY),
+    Node::Call(COPY_HALF),
+    Node::Call(COPY_HALF),
     Node::End,
     // The other slot's context becomes that of the work area.
     op!(ADDIU r8, r15, 0xC),
-    op!(ADDIU r10, r15, 152),
     op!(OR r9, r0, r14),
-    Node::Call(COPY),
+    Node::Call(COPY_HALF),
+    Node::Call(COPY_HALF),
     op!(LUI r14, places::DATA),
     op!(SW r13, r14, places::RUNNING),
     Node::Jump(WAIT),

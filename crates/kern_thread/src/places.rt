@@ -8,11 +8,11 @@ use kern_stay::places::CACHED;
 /// The listing of ChangeThread.
 pub const CHANGE_THREAD: u32 = CACHED + THREAD_CODE.from;
 
-/// The listing that copies words of the kernel's data.
-pub const COPY: u32 = CHANGE_THREAD + 0x100;
+/// The listing that copies half a context.
+pub const COPY_HALF: u32 = CHANGE_THREAD + 0x100;
 
 /// The listing of CloseThread.
-pub const CLOSE_THREAD: u32 = COPY + 0x40;
+pub const CLOSE_THREAD: u32 = COPY_HALF + 0xC0;
 
 /// The listing of OpenThread.
 pub const OPEN_THREAD: u32 = CLOSE_THREAD + 0x80;

@@ -14,11 +14,11 @@ fn places_the_calls(rt: HostRuntime) -> Result<(), Fail> {
     // ChangeThread and CloseThread: lui t0, FF00h; subu t5, a0, t0.
     assert_eq!(rt; block.word(0x2000), 0x3C08_FF00);
     assert_eq!(rt; block.word(0x2004), 0x0088_6823);
-    assert_eq!(rt; block.word(0x2140), 0x3C08_FF00);
-    assert_eq!(rt; block.word(0x2144), 0x0088_6823);
+    assert_eq!(rt; block.word(0x21C0), 0x3C08_FF00);
+    assert_eq!(rt; block.word(0x21C4), 0x0088_6823);
     // OpenThread: lui t6, 8001h; behind a load or t5, zero, zero.
-    assert_eq!(rt; block.word(0x21C0), 0x3C0E_8001);
-    assert_eq!(rt; block.word(0x21C8), 0x0000_6825);
+    assert_eq!(rt; block.word(0x2240), 0x3C0E_8001);
+    assert_eq!(rt; block.word(0x2248), 0x0000_6825);
     Ok(())
 }
 
