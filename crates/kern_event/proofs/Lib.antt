@@ -1,0 +1,11 @@
+pub mod EventsHeld
+pub mod B08OpenEvent
+pub mod B09CloseEvent
+pub mod B0aWaitEvent
+pub mod B0bTestEvent
+pub mod B20UndeliverEvent
+pub mod ChainsHeld
+pub mod C03SysDeqIntRp
+pub mod C02SysEnqIntRp
+pub mod Lawful
+pub mod Served

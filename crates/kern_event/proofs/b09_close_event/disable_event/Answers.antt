@@ -1,0 +1,5 @@
+use Rattle.kern_event.proofs.B09CloseEvent.{disable_serves}
+use Rattle.kern_event.proofs.b09_close_event.disable_event.Goals as goal
+
+pub returns-clause-serves : goal.returns-clause-serves
+returns-clause-serves c = disable_serves

@@ -1,0 +1,4 @@
+pub mod Own
+pub mod EventWords
+pub mod EventLaws
+pub mod Laws
