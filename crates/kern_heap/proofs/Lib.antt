@@ -1,0 +1,16 @@
+pub mod HeapLists
+pub mod HeapTable
+pub mod TableHeld
+pub mod HeapHeld
+pub mod Joining
+pub mod Finding
+pub mod TableStores
+pub mod Allotting
+pub mod Releasing
+pub mod OwnCalls
+pub mod A33Malloc
+pub mod A34Free
+pub mod A37Calloc
+pub mod A38Realloc
+pub mod A39InitHeap
+pub mod Served
