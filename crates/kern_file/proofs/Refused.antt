@@ -6,7 +6,9 @@ use Rattle.std.proofs.lemmas.List.{get_or_past, length-set}
 use Rattle.abs_kernel.specs.Stay.{Write}
 use Rattle.abs_kernel.specs.Answered.{registers_of, answered}
 use Rattle.abs_kernel.specs.UserBytes.{count_of}
-use Rattle.abs_kernel.specs.Files.{is_writable, with_file, refuses, bad_file}
+use Rattle.abs_kernel.specs.Files.{is_readable, is_writable, with_file, refuses, bad_file}
+use Rattle.abs_kernel.specs.ReadFile.{read_bytes}
+use Rattle.abs_kernel.specs.Getchar.{getchar}
 use Rattle.abs_kernel.specs.WriteFile.{write_bytes}
 use Rattle.kern_file.specs.CallLaws.{ClosedRefuses, NoneThere, ErrorAnswered}
 
@@ -17,7 +19,9 @@ closed_refuses s =
     let c : ℕ = r.r4 % 2 ^ 8 in (
       λ e. (
         ap (λ f. if is_some f then answered (with_file s r.r4 None) r.r4 else refuses s bad_file) e,
+        ap (λ f. if is_readable f then read_bytes n s r.r5 0 else refuses s bad_file) e,
         ap (λ f. if is_writable f then write_bytes n s r.r5 n else refuses s bad_file) e,
+        ap (λ f. if is_readable f then getchar s else refuses s bad_file) e,
       ),
       λ e. ap (λ f. if is_writable f then Write c (answered s c) else refuses s bad_file) e,
     )

@@ -3,7 +3,7 @@ use Rattle.std.specs.Prelude.{◌≡◌, ◌≢◌, ℕ, zero, suc, ◌+◌, ◌
 use Rattle.psx_base.specs.Addresses.{place, user}
 use Rattle.psx_base.specs.Memory.{Memory, byte}
 use Rattle.psx_base.specs.KernelState.{KernelState}
-use Rattle.abs_kernel.specs.declared.calls.CallId.TheVariants.{A00, A03, A04, A09, A3E, B54}
+use Rattle.abs_kernel.specs.declared.calls.CallId.TheVariants.{A00, A02, A03, A04, A08, A09, A3E, B54}
 use Rattle.abs_kernel.specs.Answered.{registers_of, answered}
 use Rattle.abs_kernel.specs.UserBytes.{following, count_of}
 use Rattle.abs_kernel.specs.AccessLaws.{on_from, AllUser}
@@ -55,9 +55,10 @@ LowestOpened = (s : KernelState) (answers : List ℕ) (n : ℕ) → let r = regi
 
 -- ---- what refuses
 
--- the number of a file that is closed refuses
+-- the number of a file that is closed refuses, in each call that takes one: close, read, write, getc, and putc, which takes it second
 abbrev pub ClosedRefuses : Type 0
-ClosedRefuses = (s : KernelState) → let r = registers_of s in (file s r.r4 ≡ None → (call A04 s ≡ refuses s bad_file) × (call A03 s ≡ refuses s bad_file))
+ClosedRefuses = (s : KernelState) → let r = registers_of s in
+    (file s r.r4 ≡ None → (call A04 s ≡ refuses s bad_file) × (call A02 s ≡ refuses s bad_file) × (call A03 s ≡ refuses s bad_file) × (call A08 s ≡ refuses s bad_file))
     × (file s r.r5 ≡ None → call A09 s ≡ refuses s bad_file)
 
 -- no file has a number from 16 on, as there are 16; one that was closed has none

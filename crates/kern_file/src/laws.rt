@@ -14,7 +14,7 @@ pub fn opened()
     ensures { LowestOpened }
 {}
 
-/// A number of a closed file refuses with the error BAD_FILE, and that is what GetLastError answers.
+/// A number of a closed file refuses with the error BAD_FILE in close, read, write, getc and putc, and that is what GetLastError answers.
 pub fn refused()
     ensures closed { ClosedRefuses }
     ensures none { NoneThere }

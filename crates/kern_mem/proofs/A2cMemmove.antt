@@ -26,7 +26,7 @@ use Rattle.kern_mem.specs.Own.{own}
 use Rattle.kern_mem.specs.declared.places.TheConstants.{MEMMOVE, ROOM}
 use Rattle.kern_mem.specs.declared.a2c_memmove.TheConstants.{NODES}
 use Rattle.kern_mem.proofs.Pointers.{null_first, null_other, not_null_both}
-use Rattle.kern_mem.proofs.Tested.{Fine, fine, left_tested, left_untested}
+use Rattle.kern_stay.proofs.Tested.{Fine, fine, left_tested, left_untested}
 use Rattle.kern_mem.proofs.Moving.{place_first, place_at, Course, rising, falling}
 
 -- the state with its memory so far

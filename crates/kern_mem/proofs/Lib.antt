@@ -4,7 +4,6 @@ pub mod A30Srand
 pub mod A2eMemchr
 pub mod A2aMemcpy
 pub mod A2bMemset
-pub mod Tested
 pub mod Moving
 pub mod A2cMemmove
 pub mod A2dMemcmp

@@ -17,7 +17,7 @@ use Rattle.kern_stay.specs.Room.{room}
 use Rattle.kern_stay.proofs.RoomLeft.{room_is_left}
 use Rattle.kern_mem.specs.MoveLaws.{SameBytes, MemmoveMoves, MemcmpTells}
 use Rattle.kern_mem.proofs.Pointers.{not_null_both}
-use Rattle.kern_mem.proofs.Tested.{Fine, fine}
+use Rattle.kern_stay.proofs.Tested.{Fine, fine}
 use Rattle.kern_mem.proofs.Moving.{place_at, length-bytes_at}
 
 -- ---- user memory

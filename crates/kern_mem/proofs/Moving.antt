@@ -4,7 +4,7 @@ use Rattle.psx_base.specs.Addresses.{place, user}
 use Rattle.psx_base.specs.Memory.{Memory, byte, put_byte, put_bytes}
 use Rattle.psx_ram.proofs.Bytes.{put_byte-put_bytes_apart, put_bytes-append, byte-put_bytes_apart}
 use Rattle.abs_kernel.specs.Memmove.{bytes_at, moved}
-use Rattle.kern_mem.proofs.Tested.{Fine}
+use Rattle.kern_stay.proofs.Tested.{Fine}
 
 -- ---- places of a range of user memory
 

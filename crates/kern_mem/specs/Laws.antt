@@ -5,7 +5,7 @@ use Rattle.psx_base.specs.Memory.{Memory, byte, word}
 use Rattle.psx_base.specs.Context.{taken}
 use Rattle.psx_base.specs.KernelState.{KernelState}
 use Rattle.abs_kernel.specs.declared.calls.CallId.{CallId}
-use Rattle.abs_kernel.specs.declared.calls.CallId.TheVariants.{A1B, A29, A2D, A2E, A44}
+use Rattle.abs_kernel.specs.declared.calls.CallId.TheVariants.{A17, A18, A1B, A1C, A1D, A1E, A1F, A20, A21, A22, A24, A25, A26, A29, A2D, A2E, A44}
 use Rattle.abs_kernel.specs.StayLaws.{EachEnd, EachReturn}
 use Rattle.abs_kernel.specs.Answered.{registers_of, with_running, with_answer}
 use Rattle.abs_kernel.specs.UserBytes.{count_of}
@@ -45,8 +45,9 @@ MemcpyCopies =
 
 -- ---- calls that only read
 
+-- those on texts, and those on memory
 abbrev pub reading : List CallId
-reading = A1B ∷ A29 ∷ A2D ∷ A2E ∷ A44 ∷ []
+reading = A17 ∷ A18 ∷ A1B ∷ A1C ∷ A1D ∷ A1E ∷ A1F ∷ A20 ∷ A21 ∷ A22 ∷ A24 ∷ A25 ∷ A26 ∷ A29 ∷ A2D ∷ A2E ∷ A44 ∷ []
 
 abbrev pub Each : (CallId → Type 0) → List CallId → Type 0
 Each P [] = Unit {0}

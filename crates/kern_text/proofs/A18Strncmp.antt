@@ -8,7 +8,8 @@ use Rattle.psx_flow.specs.Told.{ports}
 use Rattle.abs_kernel.specs.Stay.{Stay}
 use Rattle.abs_kernel.specs.Answered.{registers_of, answered}
 use Rattle.abs_kernel.specs.UserBytes.{reads_byte, bad_pointer, following, count_of}
-use Rattle.abs_kernel.specs.Strcmp.{difference, compare_texts, strncmp}
+use Rattle.abs_kernel.specs.Memcmp.{difference}
+use Rattle.abs_kernel.specs.Strcmp.{compare_texts, strncmp}
 use Rattle.abs_kernel.specs.declared.calls.CallId.TheVariants.{A18}
 use Rattle.abs_kernel.specs.Calls.{call}
 use Rattle.kern_stay.specs.Room.{room}

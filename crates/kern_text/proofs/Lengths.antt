@@ -6,7 +6,8 @@ use Rattle.psx_base.specs.KernelState.{KernelState}
 use Rattle.abs_kernel.specs.Stay.{Stay, Touch}
 use Rattle.abs_kernel.specs.Answered.{answered}
 use Rattle.abs_kernel.specs.UserBytes.{reads_byte, bad_pointer, following, longest}
-use Rattle.abs_kernel.specs.Strcmp.{difference, compare_texts}
+use Rattle.abs_kernel.specs.Memcmp.{difference}
+use Rattle.abs_kernel.specs.Strcmp.{compare_texts}
 use Rattle.abs_kernel.specs.Strchr.{find_first}
 use Rattle.abs_kernel.specs.Strrchr.{find_last}
 use Rattle.kern_stay.specs.Room.{room}

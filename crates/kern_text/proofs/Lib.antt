@@ -2,6 +2,16 @@ pub mod Pointers
 pub mod TextSpan
 pub mod CopyText
 pub mod FindEnd
+pub mod A0dStrtol
+pub mod A0eAbs
+pub mod NumberBytes
+pub mod Peeking
+pub mod BlanksPassed
+pub mod DigitsTaken
+pub mod NumberRead
+pub mod PrefixTaken
+pub mod NumberCalls
+pub mod A10Atoi
 pub mod A15Strcat
 pub mod A16Strncat
 pub mod A19Strcpy
@@ -22,6 +32,7 @@ pub mod A21Strspn
 pub mod A22Strcspn
 pub mod A23Strtok
 pub mod A24Strstr
+pub mod NumeralsRead
 pub mod StrcpyCopies
 pub mod Served
 pub mod Texts

@@ -18,13 +18,15 @@ use Rattle.abs_kernel.specs.Strspn.{strspn}
 use Rattle.abs_kernel.specs.Strcspn.{strcspn}
 use Rattle.abs_kernel.specs.Strtok.{strtok}
 use Rattle.abs_kernel.specs.Strstr.{strstr}
+use Rattle.abs_kernel.specs.Abs.{abs}
+use Rattle.abs_kernel.specs.Strtol.{strtol, atoi}
 use Rattle.kern_stay.specs.Words.{Stand}
 use Rattle.kern_stay.specs.Doors.{IsServed, most_steps}
 use Rattle.kern_stay.specs.Shared.{tree}
 use Rattle.kern_stay.specs.declared.room.TheConstants.{ROOM_NODES}
 use Rattle.kern_stay.proofs.Standing.{placed_by}
 use Rattle.kern_stay.proofs.Serving.{served_by}
-use Rattle.kern_text.specs.declared.places.TheConstants.{STRLEN, ROOM, TOUPPER, TOLOWER, STRCPY, STRCAT, STRNCAT, STRNCPY, STRCMP, STRNCMP, STRCHR, STRRCHR, SKIP, STRPBRK, STRSPN, STRCSPN, STRTOK, STRSTR}
+use Rattle.kern_text.specs.declared.places.TheConstants.{STRLEN, ROOM, TOUPPER, TOLOWER, STRCPY, STRCAT, STRNCAT, STRNCPY, STRCMP, STRNCMP, STRCHR, STRRCHR, SKIP, STRPBRK, STRSPN, STRCSPN, STRTOK, STRSTR, ABS, BLANKS, PREFIX, DIGITS, STRTOL, ATOI}
 use Rattle.kern_text.specs.declared.a1b_strlen.TheConstants as strlen_is
 use Rattle.kern_text.specs.declared.a25_toupper.TheConstants as toupper_is
 use Rattle.kern_text.specs.declared.a26_tolower.TheConstants as tolower_is
@@ -42,8 +44,15 @@ use Rattle.kern_text.specs.declared.a21_strspn.TheConstants as strspn_is
 use Rattle.kern_text.specs.declared.a22_strcspn.TheConstants as strcspn_is
 use Rattle.kern_text.specs.declared.a23_strtok.TheConstants as strtok_is
 use Rattle.kern_text.specs.declared.a24_strstr.TheConstants as strstr_is
+use Rattle.kern_text.specs.declared.a0e_abs.TheConstants as abs_is
+use Rattle.kern_text.specs.declared.blanks.TheConstants as blanks_is
+use Rattle.kern_text.specs.declared.prefix.TheConstants as prefix_is
+use Rattle.kern_text.specs.declared.digits.TheConstants as digits_is
+use Rattle.kern_text.specs.declared.a0d_strtol.TheConstants as strtol_is
+use Rattle.kern_text.specs.declared.a10_atoi.TheConstants as atoi_is
 use Rattle.kern_text.specs.Own.{own}
 use Rattle.kern_text.specs.SetOwn.{set_own}
+use Rattle.kern_text.specs.NumberOwn.{number_own}
 use Rattle.kern_text.specs.TextWords.{text_pieces}
 use Rattle.kern_text.specs.TextLaws.{TextServes}
 use Rattle.kern_text.proofs.A1bStrlen as of_strlen
@@ -62,12 +71,21 @@ use Rattle.kern_text.proofs.A21Strspn as of_strspn
 use Rattle.kern_text.proofs.A22Strcspn as of_strcspn
 use Rattle.kern_text.proofs.A23Strtok as of_strtok
 use Rattle.kern_text.proofs.A24Strstr as of_strstr
+use Rattle.kern_text.proofs.A0eAbs as of_abs
+use Rattle.kern_text.proofs.A0dStrtol as of_strtol
+use Rattle.kern_text.proofs.A10Atoi as of_atoi
 
 own_placed : (m : Memory) → Stand (word m) text_pieces → ArePlaced kernel_words m own
 own_placed m r = (placed_by m ROOM (tree ROOM_NODES) refl refl refl refl (r.1.0), tt)
 
 set_own_placed : (m : Memory) → Stand (word m) text_pieces → ArePlaced kernel_words m set_own
 set_own_placed m r = (placed_by m ROOM (tree ROOM_NODES) refl refl refl refl (r.1.0), (placed_by m SKIP (tree skip_is.SKIP_NODES) refl refl refl refl (r.1.1.1.1.1.1.1.1.1.1.1.1.0), tt))
+
+number_own_placed : (m : Memory) → Stand (word m) text_pieces → ArePlaced kernel_words m number_own
+number_own_placed m r = (
+  placed_by m ROOM (tree ROOM_NODES) refl refl refl refl (r.1.0),
+  (placed_by m BLANKS (tree blanks_is.BLANKS_NODES) refl refl refl refl (r.1.1.1.1.1.1.1.1.1.1.1.1.1.1.1.1.1.1.1.0), (placed_by m PREFIX (tree prefix_is.PREFIX_NODES) refl refl refl refl (r.1.1.1.1.1.1.1.1.1.1.1.1.1.1.1.1.1.1.1.1.0), (placed_by m DIGITS (tree digits_is.DIGITS_NODES) refl refl refl refl (r.1.1.1.1.1.1.1.1.1.1.1.1.1.1.1.1.1.1.1.1.1.0), tt))),
+)
 
 strlen_served : (m : Memory) → Stand (word m) text_pieces → IsServed m most_steps strlen STRLEN
 strlen_served m r = served_by m most_steps strlen STRLEN own (tree strlen_is.NODES) refl refl refl refl refl (own_placed m r) (r.0) of_strlen.serves
@@ -117,6 +135,15 @@ strtok_served m r = served_by m most_steps strtok STRTOK set_own (tree strtok_is
 strstr_served : (m : Memory) → Stand (word m) text_pieces → IsServed m most_steps strstr STRSTR
 strstr_served m r = served_by m most_steps strstr STRSTR own (tree strstr_is.NODES) refl refl refl refl refl (own_placed m r) (r.1.1.1.1.1.1.1.1.1.1.1.1.1.1.1.1.1.0) of_strstr.serves
 
+abs_served : (m : Memory) → Stand (word m) text_pieces → IsServed m most_steps abs ABS
+abs_served m r = served_by m most_steps abs ABS [] (tree abs_is.NODES) refl refl refl refl refl tt (r.1.1.1.1.1.1.1.1.1.1.1.1.1.1.1.1.1.1.0) of_abs.serves
+
+strtol_served : (m : Memory) → Stand (word m) text_pieces → IsServed m most_steps strtol STRTOL
+strtol_served m r = served_by m most_steps strtol STRTOL number_own (tree strtol_is.NODES) refl refl refl refl refl (number_own_placed m r) (r.1.1.1.1.1.1.1.1.1.1.1.1.1.1.1.1.1.1.1.1.1.1.0) of_strtol.serves
+
+atoi_served : (m : Memory) → Stand (word m) text_pieces → IsServed m most_steps atoi ATOI
+atoi_served m r = served_by m most_steps atoi ATOI number_own (tree atoi_is.NODES) refl refl refl refl refl (number_own_placed m r) (r.1.1.1.1.1.1.1.1.1.1.1.1.1.1.1.1.1.1.1.1.1.1.1.0) of_atoi.serves
+
 pub text_serves : TextServes
 text_serves m r = (
   inl (strlen_served m r),
@@ -142,7 +169,7 @@ text_serves m r = (
                       inl (strchr_served m r),
                       (
                         inl (strrchr_served m r),
-                        (inl (strrchr_served m r), (inl (strpbrk_served m r), (inl (strspn_served m r), (inl (strcspn_served m r), (inl (strtok_served m r), (inl (strstr_served m r), tt)))))),
+                        (inl (strrchr_served m r), (inl (strpbrk_served m r), (inl (strspn_served m r), (inl (strcspn_served m r), (inl (strtok_served m r), (inl (strstr_served m r), (inl (abs_served m r), (inl (abs_served m r), (inl (strtol_served m r), (inl (strtol_served m r), (inl (atoi_served m r), (inl (atoi_served m r), tt)))))))))))),
                       ),
                     ),
                   ),

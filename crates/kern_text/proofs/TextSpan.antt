@@ -1,5 +1,5 @@
 -- The bytes of a text, from its address up to the first that isn't user memory, and that one.
-use Rattle.std.proofs.Common.{◌≡◌, ℕ, ◌+◌, ◌%◌, ◌^◌, ◌<◌, ◌≤◌, arith}
+use Rattle.std.proofs.Common.{ℕ, ◌+◌, ◌%◌, ◌^◌, ◌<◌, ◌≤◌, arith}
 use Rattle.abs_kernel.specs.UserBytes.{longest}
 use Rattle.kern_stay.specs.Room.{room}
 use Rattle.kern_stay.proofs.RoomLeft.{Span, span_some, room_few}

@@ -9,7 +9,8 @@ use Rattle.abs_kernel.specs.Stay.{Stay, Touch}
 use Rattle.abs_kernel.specs.Answered.{registers_of, answered}
 use Rattle.abs_kernel.specs.UserBytes.{bad_pointer, following, longest}
 use Rattle.abs_kernel.specs.Strlen.{count_bytes}
-use Rattle.abs_kernel.specs.Strcmp.{difference, compare_texts}
+use Rattle.abs_kernel.specs.Memcmp.{difference}
+use Rattle.abs_kernel.specs.Strcmp.{compare_texts}
 use Rattle.kern_stay.specs.Room.{room}
 use Rattle.kern_stay.proofs.RoomLeft.{room_is_left}
 use Rattle.kern_stay.proofs.Cursor.{not_null}

@@ -23,7 +23,7 @@ user_low : (a : ℕ) → user a ≡ true → a < 0xC0000000
 unfolding user
 user_low a u = grind arith
 
-user_some : (a : ℕ) → user a ≡ true → 0 < a
+pub user_some : (a : ℕ) → user a ≡ true → 0 < a
 unfolding user
 user_some a u = grind arith
 
@@ -45,7 +45,7 @@ all_user m at (x ∷ xs) (suc i) t le =
     let e : following at + i ≡ at + suc i = omega (arith, next_is at t.0) in
     subst (λ a. user a ≡ true) e (all_user m (following at) xs i t.3 (omega (arith, le)))
 
-starts : (m : Memory) (at : ℕ) (xs : List ℕ) → TextAt m at xs → user at ≡ true
+pub starts : (m : Memory) (at : ℕ) (xs : List ℕ) → TextAt m at xs → user at ≡ true
 starts m at [] t = t.0
 starts m at (x ∷ xs) t = t.0
 
@@ -55,7 +55,7 @@ few m at xs t =
     let most = room_few at in
     ⊎_elim (λ lt. omega (arith, lt, most)) (λ le. absurd (false≢true (sym left.bad ∙ all_user m at xs (room at) t le))) (cases_lt (length xs) (room at))
 
-few_longest : (m : Memory) (at : ℕ) (xs : List ℕ) → TextAt m at xs → length xs < longest
+pub few_longest : (m : Memory) (at : ℕ) (xs : List ℕ) → TextAt m at xs → length xs < longest
 unfolding longest
 few_longest m at xs t = let h = few m at xs t in omega (arith, h)
 

@@ -1,7 +1,9 @@
 pub mod Own
 pub mod SetOwn
+pub mod NumberOwn
 pub mod TextWords
 pub mod TextLaws
 pub mod Texts
 pub mod CopyLaws
 pub mod TokenLaws
+pub mod NumberLaws

@@ -1,6 +1,9 @@
 //! The calls on texts of user memory and on characters. Each routine's listing stands in a file of its own, with its theorem.
 #![tactic(auto)]
 
+pub mod a0d_strtol;
+pub mod a0e_abs;
+pub mod a10_atoi;
 pub mod a15_strcat;
 pub mod a16_strncat;
 pub mod a17_strcmp;
@@ -17,10 +20,14 @@ pub mod a23_strtok;
 pub mod a24_strstr;
 pub mod a25_toupper;
 pub mod a26_tolower;
+pub mod blanks;
 pub mod copy_laws;
+pub mod digits;
 pub mod laws;
+pub mod number_laws;
 pub mod places;
 pub mod placing;
+pub mod prefix;
 pub mod skip;
 #[cfg(test)]
 mod tests;

@@ -55,3 +55,21 @@ pub const STRTOK: u32 = STRCSPN + 0x80;
 
 /// The listing of strstr.
 pub const STRSTR: u32 = STRTOK + 0x100;
+
+/// The listing of abs and labs.
+pub const ABS: u32 = STRSTR + 0x100;
+
+/// The listing that passes over blanks and a sign.
+pub const BLANKS: u32 = ABS + 0x40;
+
+/// The listing that chooses a number's base by its prefix.
+pub const PREFIX: u32 = BLANKS + 0x80;
+
+/// The listing that takes the digits of a number.
+pub const DIGITS: u32 = PREFIX + 0xC0;
+
+/// The listing of strtol and strtoul.
+pub const STRTOL: u32 = DIGITS + 0xC0;
+
+/// The listing of atoi and atol.
+pub const ATOI: u32 = STRTOL + 0xC0;

@@ -23,17 +23,23 @@ ghost use Rattle.kern_text.specs.declared.a21_strspn.TheConstants as strspn;
 ghost use Rattle.kern_text.specs.declared.a22_strcspn.TheConstants as strcspn;
 ghost use Rattle.kern_text.specs.declared.a23_strtok.TheConstants as strtok;
 ghost use Rattle.kern_text.specs.declared.a24_strstr.TheConstants as strstr;
+ghost use Rattle.kern_text.specs.declared.a0e_abs.TheConstants as abs;
+ghost use Rattle.kern_text.specs.declared.blanks.TheConstants as blanks;
+ghost use Rattle.kern_text.specs.declared.prefix.TheConstants as prefix;
+ghost use Rattle.kern_text.specs.declared.digits.TheConstants as digits;
+ghost use Rattle.kern_text.specs.declared.a0d_strtol.TheConstants as strtol;
+ghost use Rattle.kern_text.specs.declared.a10_atoi.TheConstants as atoi;
 ghost use Rattle.kern_text.specs.TextWords.{text_pieces};
 ghost use Rattle.kern_text.specs.TextLaws.{TextServes};
 
 use crate::places::{
-    ROOM, SKIP, STRCAT, STRCHR, STRCMP, STRCPY, STRCSPN, STRLEN, STRNCAT, STRNCMP, STRNCPY,
-    STRPBRK, STRRCHR, STRSPN, STRSTR, STRTOK, TOLOWER, TOUPPER,
+    ABS, ATOI, BLANKS, DIGITS, PREFIX, ROOM, SKIP, STRCAT, STRCHR, STRCMP, STRCPY, STRCSPN, STRLEN,
+    STRNCAT, STRNCMP, STRNCPY, STRPBRK, STRRCHR, STRSPN, STRSTR, STRTOK, STRTOL, TOLOWER, TOUPPER,
 };
 use crate::{
-    a1a_strncpy, a1b_strlen, a1e_strchr, a1f_strrchr, a15_strcat, a16_strncat, a17_strcmp,
-    a18_strncmp, a19_strcpy, a20_strpbrk, a21_strspn, a22_strcspn, a23_strtok, a24_strstr,
-    a25_toupper, a26_tolower, skip,
+    a0d_strtol, a0e_abs, a1a_strncpy, a1b_strlen, a1e_strchr, a1f_strrchr, a10_atoi, a15_strcat,
+    a16_strncat, a17_strcmp, a18_strncmp, a19_strcpy, a20_strpbrk, a21_strspn, a22_strcspn,
+    a23_strtok, a24_strstr, a25_toupper, a26_tolower, blanks, digits, prefix, skip,
 };
 use kern_layout::KernelBlock;
 use kern_stay::placing::put_listing;
@@ -43,6 +49,12 @@ use kern_stay::room::ROOM_NODES;
 pub fn place(block: &mut KernelBlock)
     ensures { (f : ℕ → ℕ) → IsBlock block.old f → IsBlock block.new (overlaid text_pieces f) }
 {
+    put_listing(block, ATOI, &a10_atoi::NODES);
+    put_listing(block, STRTOL, &a0d_strtol::NODES);
+    put_listing(block, DIGITS, &digits::DIGITS_NODES);
+    put_listing(block, PREFIX, &prefix::PREFIX_NODES);
+    put_listing(block, BLANKS, &blanks::BLANKS_NODES);
+    put_listing(block, ABS, &a0e_abs::NODES);
     put_listing(block, STRSTR, &a24_strstr::NODES);
     put_listing(block, STRTOK, &a23_strtok::NODES);
     put_listing(block, STRCSPN, &a22_strcspn::NODES);
@@ -82,7 +94,13 @@ pub fn apart()
     ensures strspn { EndsBy place.STRSPN strspn.NODES place.STRCSPN }
     ensures strcspn { EndsBy place.STRCSPN strcspn.NODES place.STRTOK }
     ensures strtok { EndsBy place.STRTOK strtok.NODES place.STRSTR }
-    ensures strstr { EndsBy place.STRSTR strstr.NODES (CACHED + TEXT_CODE.to) }
+    ensures strstr { EndsBy place.STRSTR strstr.NODES place.ABS }
+    ensures abs { EndsBy place.ABS abs.NODES place.BLANKS }
+    ensures blanks { EndsBy place.BLANKS blanks.BLANKS_NODES place.PREFIX }
+    ensures prefix { EndsBy place.PREFIX prefix.PREFIX_NODES place.DIGITS }
+    ensures digits { EndsBy place.DIGITS digits.DIGITS_NODES place.STRTOL }
+    ensures strtol { EndsBy place.STRTOL strtol.NODES place.ATOI }
+    ensures atoi { EndsBy place.ATOI atoi.NODES (CACHED + TEXT_CODE.to) }
 {}
 
 /// Where the words stand, each call is served by its listing. It does nothing.

@@ -1,8 +1,11 @@
 //! Words of the block behind `place`, encoded by hand from the R3000A manual's instruction formats.
+use crate::a0d_strtol::strtol;
+use crate::a0e_abs::abs;
 use crate::a1a_strncpy::strncpy;
 use crate::a1b_strlen::strlen;
 use crate::a1e_strchr::strchr;
 use crate::a1f_strrchr::strrchr;
+use crate::a10_atoi::atoi;
 use crate::a15_strcat::strcat;
 use crate::a16_strncat::strncat;
 use crate::a17_strcmp::strcmp;
@@ -15,13 +18,17 @@ use crate::a23_strtok::strtok;
 use crate::a24_strstr::strstr;
 use crate::a25_toupper::toupper;
 use crate::a26_tolower::tolower;
+use crate::blanks::blanks;
 use crate::copy_laws::strcpy_copies;
+use crate::digits::digits;
 use crate::laws::{
     no_text_is_as_long_as_the_definitions_go_on, strcmp_answers_0_for_equal_texts_alone,
     strlen_counts_the_bytes_before_the_zero,
 };
+use crate::number_laws::{atoi_reads_decimals, strtol_reads_numerals};
 use crate::place;
 use crate::placing::{apart, text_serves};
+use crate::prefix::prefix;
 use crate::skip::skip;
 use crate::token_laws::tokens;
 use kern_layout::KernelBlock;
@@ -86,6 +93,34 @@ fn places_what_compares_and_finds(rt: HostRuntime) -> Result<(), Fail> {
 }
 
 #[test]
+fn places_the_calls_on_numbers(rt: HostRuntime) -> Result<(), Fail> {
+    let mut block = KernelBlock::new(rt.alloc())?;
+    place(&mut block);
+    // abs: or v0, zero, a0; bgez a0, two words on; subu v0, zero, a0.
+    assert_eq!(rt; block.word(0x5900), 0x0004_1025);
+    assert_eq!(rt; block.word(0x5904), 0x0481_0002);
+    assert_eq!(rt; block.word(0x590C), 0x0004_1023);
+    // The blanks: or t7, zero, zero. The digits: beq t0, t6, 34 words on.
+    assert_eq!(rt; block.word(0x5940), 0x0000_7825);
+    assert_eq!(rt; block.word(0x5A80), 0x110E_0022);
+    // strtol and atoi: or v0, zero, zero; bne a0, zero, three words on.
+    assert_eq!(rt; block.word(0x5B40), 0x0000_1025);
+    assert_eq!(rt; block.word(0x5B44), 0x1480_0003);
+    assert_eq!(rt; block.word(0x5C04), 0x1480_0003);
+    Ok(())
+}
+
+#[test]
+fn lends_listings_of_numbers(rt: HostRuntime) {
+    assert_eq!(rt; abs().len(), 5);
+    assert_eq!(rt; blanks().len(), 25);
+    assert_eq!(rt; prefix().len(), 39);
+    assert_eq!(rt; digits().len(), 34);
+    assert_eq!(rt; strtol().len(), 30);
+    assert_eq!(rt; atoi().len(), 15);
+}
+
+#[test]
 fn lends_listings(rt: HostRuntime) {
     assert_eq!(rt; strlen().len(), 17);
     assert_eq!(rt; toupper().len(), 8);
@@ -119,4 +154,6 @@ fn laws_do_nothing() {
     strcmp_answers_0_for_equal_texts_alone();
     no_text_is_as_long_as_the_definitions_go_on();
     tokens();
+    strtol_reads_numerals();
+    atoi_reads_decimals();
 }
