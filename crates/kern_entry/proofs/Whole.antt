@@ -11,7 +11,7 @@ use Rattle.psx_base.specs.Registers.{Registers}
 use Rattle.psx_base.specs.Context.{Context, settled, settle, epc_of, placed, taken}
 use Rattle.psx_base.specs.Addresses.{is_mirrored}
 use Rattle.psx_base.specs.Items.{Entrance, ByA, ByB, ByC, BySyscall, ByInterrupt, ByDone, ByBack, ByTrap}
-use Rattle.psx_base.specs.Entrances.{entrance}
+use Rattle.psx_base.specs.Entrances.{entrance, number}
 use Rattle.psx_base.specs.KernelState.{KernelState}
 use Rattle.psx_cpu.specs.Processor.{Core, Cop0}
 use Rattle.psx_cpu.specs.Exceptions.{cause_of, entered_sr, vector, enter}
@@ -42,7 +42,7 @@ use Rattle.kern_entry.specs.EntryWords.{tree}
 use Rattle.kern_entry.specs.Within.{Aim, Within}
 use Rattle.kern_entry.specs.Made.{Made}
 use Rattle.kern_entry.specs.Tables.{destination, TableAt, TablesRead}
-use Rattle.kern_entry.specs.EntryLaws.{KeepsRest, AtRoutine, Begins, StaysBegin, kernel_at}
+use Rattle.kern_entry.specs.EntryLaws.{KeepsRest, called_by, call_made, AtRoutine, Begins, StaysBegin, kernel_at}
 use Rattle.kern_entry.proofs.WorkArea.{held, AreaHolds, AreaEntered}
 use Rattle.kern_entry.proofs.Saving.{Arrived, vector_meets, save_meets}
 use Rattle.kern_entry.proofs.Choosing.{arrival, causes_meets}
@@ -113,7 +113,7 @@ module _ (go : CallId → ℕ) (m : Memory) (all : AllPlaced m) (tables : Tables
   z = record { sr = sr; cause = cause_of code s.running.context.in_slot; epc = epc_of s.running.context; bad_address = bad }
 
   abbrev Z : Stay → Aim
-  Z stay = Begins go m s stay
+  Z stay = Begins go m s code stay
 
   abbrev Show : Stay → Run → ℕ → Type 0
   Show stay e at = Shown m (Z stay) e at
@@ -131,9 +131,10 @@ module _ (go : CallId → ℕ) (m : Memory) (all : AllPlaced m) (tables : Tables
   })
 
   -- a call by its row: its routine is arrived at
-  arrives : s.running.context.in_slot ≡ false → (id : CallId) (e : Run) → Keeps kernel_words m e → AreaEntered c z on m [] 100 e → AtRoutine go m s (call id t) (kernel_core (state_at e (go id))) e.seen
-  arrives out id e ke h = record {
+  arrives : s.running.context.in_slot ≡ false → (id : CallId) → call_made s code ≡ Some id → (e : Run) → Keeps kernel_words m e → AreaEntered c z on m [] 100 e → AtRoutine go m s code (call id t) (kernel_core (state_at e (go id))) e.seen
+  arrives out id made e ke h = record {
     id = id;
+    made = made;
     is = refl;
     regs = e.regs;
     cop0 = e.cop0;
@@ -145,22 +146,22 @@ module _ (go : CallId → ℕ) (m : Memory) (all : AllPlaced m) (tables : Tables
     quiet = h.holds.ports;
   }
 
-  called : s.running.context.in_slot ≡ false → (T : Table) (o : Option CallId) (e : Run) → Keeps kernel_words m e → AreaEntered c z on m [] 100 e → e.regs.r10 ≡ table_number T → Show (by_row T o t) e (destination go o)
-  called out T None e ke h r = unserved_shown m all (by_row T None t) (Z (by_row T None t)) (mine (by_row T None t) refl) c z on [] e ke h (table_number T) r (record {
+  called : s.running.context.in_slot ≡ false → (T : Table) (o : Option CallId) → call_made s code ≡ o → (e : Run) → Keeps kernel_words m e → AreaEntered c z on m [] 100 e → e.regs.r10 ≡ table_number T → Show (by_row T o t) e (destination go o)
+  called out T None made e ke h r = unserved_shown m all (by_row T None t) (Z (by_row T None t)) (mine (by_row T None t) refl) c z on [] e ke h (table_number T) r (record {
     stop = Unserved T c.r9 c.r31;
     memory = s.memory;
     follows = (((tt, refl), refl), refl);
     is = refl;
     stops = λ x y w. ap (λ n. Some (Unserved n c.r9 c.r31)) (table_is T);
   })
-  called out T (Some id) e ke h r = λ n few. within_here (Z (call id t)) n (kernel_core (state_at e (go id))) e.seen (inr (arrives out id e ke h))
+  called out T (Some id) made e ke h r = λ n few. within_here (Z (call id t)) n (kernel_core (state_at e (go id))) e.seen (inr (arrives out id made e ke h))
 
-  table_shown : s.running.context.in_slot ≡ false → (T : Table) (tr : Tree) (at : ℕ) (e : Run) → IsPlaced kernel_words m at tr → Keeps kernel_words m e → Meets kernel_words (calls kernel_words []) tr at (λ _. ⊥) (λ to x. Called go T (table_number T) c z on m [] 100 to x) e
+  table_shown : s.running.context.in_slot ≡ false → (T : Table) → call_made s code ≡ served_call T c.r9 → (tr : Tree) (at : ℕ) (e : Run) → IsPlaced kernel_words m at tr → Keeps kernel_words m e → Meets kernel_words (calls kernel_words []) tr at (λ _. ⊥) (λ to x. Called go T (table_number T) c z on m [] 100 to x) e
       → Show (by_row T (served_call T c.r9) t) e at
-  table_shown out T tr at e pl ke me =
+  table_shown out T made tr at e pl ke me =
       let stay = by_row T (served_call T c.r9) t in
       walks m (Z stay) tr at (λ _. ⊥) (λ to x. Called go T (table_number T) c z on m [] 100 to x) e pl ke (λ x b. absurd b) (λ a x g. low x g.entered) (λ x kx b. absurd b)
-      (λ a x kx g. subst (λ n. Show stay x n) (sym g.to_is) (called out T (served_call T c.r9) x kx g.entered g.table_is)) me
+      (λ a x kx g. subst (λ n. Show stay x n) (sym g.to_is) (called out T (served_call T c.r9) made x kx g.entered g.table_is)) me
     where
       low : (x : Run) → AreaEntered c z on m [] 100 x → x.steps ≤ 200
       low x h = omega (arith, h.holds.within)
@@ -196,11 +197,15 @@ module _ (go : CallId → ℕ) (m : Memory) (all : AllPlaced m) (tables : Tables
         stops = λ x y w. refl;
       }) (sys_meets c z on m [] 100 200 e h (omega arith) number q)
 
+  -- the call of an entry, by its entrance
+  made_by : (by : Entrance) → entrance code s.running.context.in_slot z.epc ≡ by → call_made s code ≡ called_by by (number by code c)
+  made_by by is = ap (λ x. called_by x (number x code c)) is
+
   -- an entry by its entrance
   arrived : (by : Entrance) → entrance code s.running.context.in_slot z.epc ≡ by → (e : Run) → Keeps kernel_words m e → AreaEntered c z on m [] 80 e → Show (by_entrance by code t) e (arrival by)
-  arrived ByA is e ke h = table_shown (no_slot code s.running.context.in_slot z.epc ByA is refl) A (tree CALL_A_NODES) CALL_A e all.call_a ke (call_a_meets go tables.there c z on m [] 80 100 e h (omega arith) (table_kept go m e A 0x200 0xC0 ke (omega arith) tables.a))
-  arrived ByB is e ke h = table_shown (no_slot code s.running.context.in_slot z.epc ByB is refl) B (tree CALL_B_NODES) CALL_B e all.call_b ke (call_b_meets go tables.there c z on m [] 80 100 e h (omega arith) (table_kept go m e B 0x874 0x5F ke (omega arith) tables.b))
-  arrived ByC is e ke h = table_shown (no_slot code s.running.context.in_slot z.epc ByC is refl) C (tree CALL_C_NODES) CALL_C e all.call_c ke (call_c_meets go tables.there c z on m [] 80 100 e h (omega arith) (table_kept go m e C 0x674 0x20 ke (omega arith) tables.c))
+  arrived ByA is e ke h = table_shown (no_slot code s.running.context.in_slot z.epc ByA is refl) A (made_by ByA is) (tree CALL_A_NODES) CALL_A e all.call_a ke (call_a_meets go tables.there c z on m [] 80 100 e h (omega arith) (table_kept go m e A 0x200 0xC0 ke (omega arith) tables.a))
+  arrived ByB is e ke h = table_shown (no_slot code s.running.context.in_slot z.epc ByB is refl) B (made_by ByB is) (tree CALL_B_NODES) CALL_B e all.call_b ke (call_b_meets go tables.there c z on m [] 80 100 e h (omega arith) (table_kept go m e B 0x874 0x5F ke (omega arith) tables.b))
+  arrived ByC is e ke h = table_shown (no_slot code s.running.context.in_slot z.epc ByC is refl) C (made_by ByC is) (tree CALL_C_NODES) CALL_C e all.call_c ke (call_c_meets go tables.there c z on m [] 80 100 e h (omega arith) (table_kept go m e C 0x674 0x20 ke (omega arith) tables.c))
   arrived BySyscall is e ke h = sys_shown c.r4 e ke (further_in c z on m [] 80 100 e (omega arith) h) h.r4
   arrived ByInterrupt is e ke h = trap_shown e ke (further_in c z on m [] 80 100 e (omega arith) h)
   arrived ByTrap is e ke h = trap_shown e ke (further_in c z on m [] 80 100 e (omega arith) h)
@@ -275,7 +280,7 @@ stays_begin go k s trap h =
     let m : Memory = k.bytes in
     let x : Context = s.running.context in
     let bad : ℕ = unwrap_or trap.bad k.processor.cop0.bad_address in
-    let made : Core → Type 0 = λ y. Within (Begins go m s (by_entrance (entrance_of x trap.code) trap.code (settled_state s))) 202 y [] in
+    let made : Core → Type 0 = λ y. Within (Begins go m s trap.code (by_entrance (entrance_of x trap.code) trap.code (settled_state s))) 202 y [] in
     let cop : ℕ → Cop0 = λ sr. record { sr = entered_sr sr; cause = cause_of trap.code x.in_slot; epc = epc_of x; bad_address = bad } in
     let at : ℕ → ℕ → Core = λ sr pc. record { processor = record { context = placed (settle x) pc; cop0 = cop sr; latch = true }; bytes = m } in
     let begun : made (at (user_sr on) VECTOR) =

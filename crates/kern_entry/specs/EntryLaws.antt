@@ -1,5 +1,5 @@
 -- That the entry's words make the stays of the written kernel machine.
-use Rattle.std.specs.Prelude.{◌≡◌, ◌⊎◌, ℕ, ◌+◌, ◌%◌, ◌^◌, ◌<◌, List, true, false, None, []}
+use Rattle.std.specs.Prelude.{◌≡◌, ◌⊎◌, ℕ, ◌+◌, ◌%◌, ◌^◌, ◌<◌, List, true, false, Option, Some, None, []}
 use Rattle.psx_base.specs.Addresses.{is_mirrored}
 use Rattle.psx_base.specs.Context.{taken}
 use Rattle.psx_base.specs.Memory.{Memory, word}
@@ -12,9 +12,13 @@ use Rattle.kern_layout.specs.Fields.{Block}
 use Rattle.kern_layout.specs.Contexts.{saved}
 use Rattle.kern_layout.specs.Stands.{user_sr}
 use Rattle.psx_base.specs.declared.stop.Stop.TheVariants.{BadPointer, BadThread, Deep}
+use Rattle.psx_base.specs.declared.stop.Table.TheVariants.{A, B, C}
+use Rattle.psx_base.specs.Items.{Entrance, ByA, ByB, ByC}
 use Rattle.psx_flow.specs.Run.{Access}
 use Rattle.psx_flow.specs.Told.{ports}
 use Rattle.abs_kernel.specs.declared.calls.CallId.{CallId}
+use Rattle.abs_kernel.specs.CallTable.{served_call}
+use Rattle.abs_kernel.specs.Cause.{entry_of}
 use Rattle.abs_kernel.specs.Stay.{Stay, Return, Halt}
 use Rattle.abs_kernel.specs.StayLaws.{EachEnd}
 use Rattle.abs_kernel.specs.Calls.{call}
@@ -56,9 +60,20 @@ most_entry_steps = 202
 abbrev pub KeepsRest : KernelState → Stay → Type 0
 KeepsRest s stay = EachEnd (λ t. t ≡ record s { running = t.running }) (λ stop memory. memory ≡ s.memory) stay
 
--- The processor stands at the routine of a call, with the caller's context saved and its arguments in registers; no port was accessed.
-pub record AtRoutine (at : CallId → ℕ) (first : Memory) (s : KernelState) (stay : Stay) (k : Core) (q : List Access) : Type 0 where
+-- the call that an entry makes: at a gate the one that its table has at the number
+abbrev pub called_by : Entrance → (number : ℕ) → Option CallId
+called_by ByA number = served_call A number
+called_by ByB number = served_call B number
+called_by ByC number = served_call C number
+called_by _ number = None
+
+abbrev pub call_made : KernelState → (code : ℕ) → Option CallId
+call_made s code = let e = entry_of s.running.context code in called_by e.gate e.number
+
+-- The processor stands at the routine of the call that an entry makes, with the caller's context saved and its arguments in registers; no port was accessed.
+pub record AtRoutine (at : CallId → ℕ) (first : Memory) (s : KernelState) (code : ℕ) (stay : Stay) (k : Core) (q : List Access) : Type 0 where
   pub id : CallId
+  pub made : call_made s code ≡ Some id
   pub is : stay ≡ call id (settled_state s)
   pub regs : Registers
   pub cop0 : Cop0
@@ -70,12 +85,12 @@ pub record AtRoutine (at : CallId → ℕ) (first : Memory) (s : KernelState) (s
   pub quiet : ports q ≡ []
 
 -- either a stay is made, or it is that of a call, at whose routine the processor stands
-abbrev pub Begins : (CallId → ℕ) → Memory → KernelState → Stay → Aim
-Begins at first s stay k q = (KeepsRest s stay × Made first stay k q) ⊎ AtRoutine at first s stay k q
+abbrev pub Begins : (CallId → ℕ) → Memory → KernelState → (code : ℕ) → Stay → Aim
+Begins at first s code stay k q = (KeepsRest s stay × Made first stay k q) ⊎ AtRoutine at first s code stay k q
 
 -- From the vector, whatever the bus brings at each step, the words make the stay of the state and the code, or come to its routine.
 abbrev pub StaysBegin : Type 0
-StaysBegin = (at : CallId → ℕ) (k : Core) (s : KernelState) (trap : Trap) → Enters at k s trap → Within (Begins at k.bytes s (stay_of s trap.code)) most_entry_steps (record k { processor = enter k.processor trap }) []
+StaysBegin = (at : CallId → ℕ) (k : Core) (s : KernelState) (trap : Trap) → Enters at k s trap → Within (Begins at k.bytes s trap.code (stay_of s trap.code)) most_entry_steps (record k { processor = enter k.processor trap }) []
 
 -- ---- where routines arrive
 

@@ -22,6 +22,7 @@ pub mod StaysServed
 pub mod StaysLoops
 pub mod StaysEnter
 pub mod StaysHeld
+pub mod StaysBounds
 pub mod StaysCalls
 pub mod ServesEvery
 pub mod StaysAll

@@ -1,13 +1,14 @@
 -- Each call is served at the address that the tables have for it.
 use Rattle.std.proofs.Common.{◌≡◌, ℕ, Bool, true, false, List, [], ◌∷◌, ◌++◌, Option, Some, None, refl, ap, ◌+◌, ◌≤◌, subst, rules, tests, arith, ⊎_elim}
-use Rattle.std.specs.Prelude.{unwrap_or, if◌then◌else◌}
+use Rattle.std.specs.Prelude.{unwrap_or, nat_le, if◌then◌else◌}
+use Rattle.std.proofs.lemmas.Bool.{and_parts, leb-true}
 use Rattle.psx_base.specs.Memory.{Memory, word}
 use Rattle.kern_layout.specs.Stands.{HoldsRom}
 use Rattle.abs_kernel.specs.declared.calls.CallId.{CallId}
 use Rattle.abs_kernel.specs.declared.calls.CallId.TheVariants.{A06, A3A, B38}
 use Rattle.abs_kernel.specs.Calls.{call}
 use Rattle.abs_kernel.specs.CallTable.{same_call}
-use Rattle.kern_stay.specs.Doors.{IsServed, most_steps}
+use Rattle.kern_stay.specs.Doors.{IsServed, most_steps, most_heap_steps}
 use Rattle.kern_stay.specs.Loops.{IsServedBy}
 use Rattle.kern_stay.specs.Served.{EachAt, AllServed}
 use Rattle.kern_entry.specs.declared.places.TheConstants.{EXIT}
@@ -16,15 +17,20 @@ use denote.Enum.Bare.{same_true}
 use Rattle.abs_kernel.specs.contracts.calls.CallId.{the_type}
 use Rattle.kern_thread.specs.ThreadLaws.{thread_calls}
 use Rattle.kern_thread.proofs.Served.{thread_serves}
+use Rattle.kern_event.specs.EventLaws.{event_calls}
+use Rattle.kern_event.proofs.Served.{event_serves}
 use Rattle.kern_mem.specs.MemLaws.{mem_calls}
 use Rattle.kern_mem.proofs.Served.{mem_serves}
 use Rattle.kern_text.specs.TextLaws.{text_calls}
 use Rattle.kern_text.proofs.Served.{text_serves}
+use Rattle.kern_heap.specs.HeapLaws.{heap_calls}
+use Rattle.kern_heap.proofs.Served.{heap_serves}
 use Rattle.kern_file.specs.FileLaws.{file_calls}
 use Rattle.kern_file.proofs.Served.{file_serves}
 use Rattle.kern_image.specs.Words.{joined}
 use Rattle.kern_image.specs.Rom.{rom}
 use Rattle.kern_image.specs.Tables.{routine_of}
+use Rattle.kern_image.proofs.StaysBounds.{most_of, may_make}
 use Rattle.kern_image.proofs.StaysServed.{Serving, serving_more, by_listing, by_own}
 use Rattle.kern_image.proofs.StaysLoops.{by_loop}
 use Rattle.kern_image.proofs.StaysHeld.{holds_entry, pieces}
@@ -67,7 +73,7 @@ entry_calls = (A06, EXIT) ∷ (A3A, EXIT) ∷ (B38, EXIT) ∷ []
 
 -- crate by crate
 abbrev all_calls : List (List (CallId × ℕ))
-all_calls = entry_calls ∷ thread_calls ∷ mem_calls ∷ text_calls ∷ file_calls ∷ []
+all_calls = entry_calls ∷ thread_calls ∷ event_calls ∷ mem_calls ∷ text_calls ∷ heap_calls ∷ file_calls ∷ []
 
 -- the tables have each call at its crate's address
 placed : (id : CallId) → find (joined all_calls) id ≡ Some (routine_of id)
@@ -75,25 +81,35 @@ placed A06 = refl
 placed _ = refl
 
 module _ (m : Memory) (code : HoldsRom m rom) where
-  -- with the steps that the entry leaves of 20,480
+  -- with its bound, and the steps behind its door
   abbrev ServingAt : CallId → ℕ → Type 0
-  ServingAt id at = Serving rom m (holds_entry m code) code 20278 (call id) at
+  ServingAt id at = Serving rom m (holds_entry m code) code (73 + most_of id) (call id) at
 
-  within : (few : ℕ) (id : CallId) (at : ℕ) → few ≤ 20278 → Serving rom m (holds_entry m code) code few (call id) at → ServingAt id at
-  within few id at less s = serving_more rom m (holds_entry m code) code few 20278 (call id) at less s
+  within : (few : ℕ) (id : CallId) (at : ℕ) → few ≤ 73 + most_of id → Serving rom m (holds_entry m code) code few (call id) at → ServingAt id at
+  within few id at less s = serving_more rom m (holds_entry m code) code few (73 + most_of id) (call id) at less s
 
   by_entry : EachAt ServingAt entry_calls
   by_entry = let exit = within 203 A06 EXIT (omega arith) (by_own rom m (holds_entry m code) code (call A06) EXIT exit_called) in (exit, (exit, (exit, tt)))
 
-  by_crate : (ps : List (CallId × ℕ)) → AllServed m most_steps ps → EachAt ServingAt ps
-  by_crate [] h = tt
-  by_crate (p ∷ ps) h =
-      let one = λ (s : IsServed m most_steps (call p.0) p.1). within (73 + most_steps) p.0 p.1 (omega arith) (by_listing rom m (holds_entry m code) code most_steps (call p.0) p.1 s) in
-      let two = λ (s : IsServedBy m most_steps (call p.0) p.1). within (73 + most_steps) p.0 p.1 (omega arith) (by_loop rom m (holds_entry m code) code most_steps (call p.0) p.1 s) in
-      (⊎_elim one two h.0, by_crate ps h.1)
+  by_crate : (most : ℕ) (ps : List (CallId × ℕ)) → may_make most ps ≡ true → AllServed m most ps → EachAt ServingAt ps
+  by_crate most [] may h = tt
+  by_crate most (p ∷ ps) may h =
+      let few = and_parts (nat_le most (most_of p.0)) (may_make most ps) may in
+      let less : 73 + most ≤ 73 + most_of p.0 = (let q = leb-true most (most_of p.0) few.0 in omega (arith, q)) in
+      let one = λ (s : IsServed m most (call p.0) p.1). within (73 + most) p.0 p.1 less (by_listing rom m (holds_entry m code) code most (call p.0) p.1 s) in
+      let two = λ (s : IsServedBy m most (call p.0) p.1). within (73 + most) p.0 p.1 less (by_loop rom m (holds_entry m code) code most (call p.0) p.1 s) in
+      (⊎_elim one two h.0, by_crate most ps few.1 h.1)
 
   all_serve : EachCrate ServingAt all_calls
-  all_serve = let w = (pieces m code).1.1.1 in (by_entry, (by_crate thread_calls (thread_serves m w.0), (by_crate mem_calls (mem_serves m w.1.0), (by_crate text_calls (text_serves m w.1.1.0), (by_crate file_calls (file_serves m w.1.1.1.0), tt)))))
+  all_serve =
+      let w = (pieces m code).1.1.1 in
+      let by_thread = by_crate most_steps thread_calls refl (thread_serves m w.0) in
+      let by_event = by_crate most_steps event_calls refl (event_serves m w.1.0) in
+      let by_mem = by_crate most_steps mem_calls refl (mem_serves m w.1.1.0) in
+      let by_text = by_crate most_steps text_calls refl (text_serves m w.1.1.1.0) in
+      let by_heap = by_crate most_heap_steps heap_calls refl (heap_serves m w.1.1.1.1.0) in
+      let by_file = by_crate most_steps file_calls refl (file_serves m w.1.1.1.1.1.0) in
+      (by_entry, (by_thread, (by_event, (by_mem, (by_text, (by_heap, (by_file, tt)))))))
 
   pub served : (id : CallId) → ServingAt id (routine_of id)
   served id = found ServingAt (joined all_calls) id (routine_of id) (each_joined ServingAt all_calls all_serve) (placed id)

@@ -52,8 +52,10 @@ fn kernel(alloc: Global) -> Result<KernelBlock, Memory>
 {
     let mut block = KernelBlock::new(alloc)?;
     kern_file::place(&mut block);
+    kern_heap::place(&mut block);
     kern_text::place(&mut block);
     kern_mem::place(&mut block);
+    kern_event::place(&mut block);
     kern_thread::place(&mut block);
     place_code(&mut block);
     place_tables(&mut block);

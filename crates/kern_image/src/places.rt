@@ -1,16 +1,21 @@
 //! Where the routine of each call stands.
 use abs_kernel::CallId;
 use kern_entry::places::EXIT;
+use kern_event::places::{
+    CLOSE_EVENT, DISABLE_EVENT, ENABLE_EVENT, OPEN_EVENT, SYS_DEQ_INT_RP, SYS_ENQ_INT_RP,
+    TEST_EVENT, UNDELIVER_EVENT, WAIT_EVENT,
+};
 use kern_file::places::{
     CLOSE, GET_LAST_ERROR, GETC, GETCHAR, GETS, OPEN, PUTC, PUTCHAR, PUTS, READ, WRITE,
 };
+use kern_heap::places::{CALLOC, FREE, INIT_HEAP, MALLOC, REALLOC};
 use kern_mem::places::{
     BCOPY, BZERO, FLUSH_CACHE, LONGJMP, MEMCHR, MEMCMP, MEMCPY, MEMMOVE, MEMSET, RAND, SETJMP,
     SRAND,
 };
 use kern_text::places::{
-    STRCAT, STRCHR, STRCMP, STRCPY, STRCSPN, STRLEN, STRNCAT, STRNCMP, STRNCPY, STRPBRK, STRRCHR,
-    STRSPN, STRSTR, STRTOK, TOLOWER, TOUPPER,
+    ABS, ATOI, STRCAT, STRCHR, STRCMP, STRCPY, STRCSPN, STRLEN, STRNCAT, STRNCMP, STRNCPY, STRPBRK,
+    STRRCHR, STRSPN, STRSTR, STRTOK, STRTOL, TOLOWER, TOUPPER,
 };
 use kern_thread::places::{CHANGE_THREAD, CLOSE_THREAD, OPEN_THREAD};
 
@@ -24,7 +29,7 @@ pub struct Place {
 }
 
 /// Each call once. Numbers of one description share an address.
-pub const PLACES: [Place; 58] = [
+pub const PLACES: [Place; 78] = [
     Place {
         call: CallId::A00,
         at: OPEN,
@@ -52,6 +57,30 @@ pub const PLACES: [Place; 58] = [
     Place {
         call: CallId::A09,
         at: PUTC,
+    },
+    Place {
+        call: CallId::A0C,
+        at: STRTOL,
+    },
+    Place {
+        call: CallId::A0D,
+        at: STRTOL,
+    },
+    Place {
+        call: CallId::A0E,
+        at: ABS,
+    },
+    Place {
+        call: CallId::A0F,
+        at: ABS,
+    },
+    Place {
+        call: CallId::A10,
+        at: ATOI,
+    },
+    Place {
+        call: CallId::A11,
+        at: ATOI,
     },
     Place {
         call: CallId::A13,
@@ -174,6 +203,26 @@ pub const PLACES: [Place; 58] = [
         at: SRAND,
     },
     Place {
+        call: CallId::A33,
+        at: MALLOC,
+    },
+    Place {
+        call: CallId::A34,
+        at: FREE,
+    },
+    Place {
+        call: CallId::A37,
+        at: CALLOC,
+    },
+    Place {
+        call: CallId::A38,
+        at: REALLOC,
+    },
+    Place {
+        call: CallId::A39,
+        at: INIT_HEAP,
+    },
+    Place {
         call: CallId::A3A,
         at: EXIT,
     },
@@ -198,6 +247,30 @@ pub const PLACES: [Place; 58] = [
         at: FLUSH_CACHE,
     },
     Place {
+        call: CallId::B08,
+        at: OPEN_EVENT,
+    },
+    Place {
+        call: CallId::B09,
+        at: CLOSE_EVENT,
+    },
+    Place {
+        call: CallId::B0A,
+        at: WAIT_EVENT,
+    },
+    Place {
+        call: CallId::B0B,
+        at: TEST_EVENT,
+    },
+    Place {
+        call: CallId::B0C,
+        at: ENABLE_EVENT,
+    },
+    Place {
+        call: CallId::B0D,
+        at: DISABLE_EVENT,
+    },
+    Place {
         call: CallId::B0E,
         at: OPEN_THREAD,
     },
@@ -208,6 +281,10 @@ pub const PLACES: [Place; 58] = [
     Place {
         call: CallId::B10,
         at: CHANGE_THREAD,
+    },
+    Place {
+        call: CallId::B20,
+        at: UNDELIVER_EVENT,
     },
     Place {
         call: CallId::B32,
@@ -256,5 +333,13 @@ pub const PLACES: [Place; 58] = [
     Place {
         call: CallId::B54,
         at: GET_LAST_ERROR,
+    },
+    Place {
+        call: CallId::C02,
+        at: SYS_ENQ_INT_RP,
+    },
+    Place {
+        call: CallId::C03,
+        at: SYS_DEQ_INT_RP,
     },
 ];
