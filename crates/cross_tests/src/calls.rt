@@ -1,32 +1,7 @@
 //! The calls on memory, texts and random numbers, each made by a program on the image.
-ghost use Rattle.std.specs.Prelude.{◌<◌, length};
-
-use crate::shows;
-use psx_base::{MemoryHost, Out};
-use psxk_run::psxk;
-use std::process::Abort;
-
-// Room for the memory and the texts of a short run.
-const ROOM: usize = 2_200_000;
-
-// Assembles a text and runs it: the host behind the run.
-fn ran<R: AllocGlobal + Abort>(rt: &R, text: &[u8]) -> MemoryHost {
-    let mut maker = MemoryHost::new(rt.alloc(), ROOM).expect(rt, "room");
-    maker.put("a.s", text).expect(rt, "put");
-    assert_eq!(rt; psxk(rt.alloc(), &["asm", "a.s"], &mut maker), 0);
-    let mut host = MemoryHost::new(rt.alloc(), ROOM).expect(rt, "room");
-    host.put("a.exe", maker.sent(Out::Ram)).expect(rt, "put");
-    let status = psxk(rt.alloc(), &["run", "a.exe", "-", "2000000"], &mut host);
-    assert!(rt; status < 2);
-    host
-}
-
-// Whether bytes stand somewhere in others.
-fn stands_in(bytes: &[u8], part: &[u8]) -> bool
-    requires { 0 < length part.now }
-{
-    bytes.windows(part.len()).any(|window| window == part)
-}
+use crate::hosts::stands_in;
+use crate::{runs_to, shows};
+use psx_base::Out;
 
 #[test]
 fn toupper_changes_the_small_letters_of_the_low_byte(rt: HostRuntime) {
@@ -183,7 +158,7 @@ text:   .asciiz \"abcdef\"
 // The source's bad address comes before the destination's, where both end at the same byte; what was copied before stands.
 #[test]
 fn memcpy_names_the_source_before_the_destination(rt: HostRuntime) {
-    let host = ran(
+    let host = runs_to(
         &rt,
         b"
 start:
@@ -198,10 +173,8 @@ start:
         jalr    r31, r10                # at 80010028h, so r31 is 80010030h
         nop
 ",
-    );
-    assert!(rt;
-        host.sent(Out::Trace)
-            .ends_with(b" BadPointer 1F800400 80010030\n")
+        b"",
+        b" BadPointer 1F800400 80010030\n",
     );
     let end = host.sent(Out::Ram).get(0x1F_FFFE..0x20_0000);
     assert!(rt; end.expect(&rt, "main memory") == b"AB".as_slice());
@@ -236,7 +209,7 @@ start:
 
 #[test]
 fn memset_writes_up_to_the_end_of_memory_and_stops(rt: HostRuntime) {
-    let host = ran(
+    let host = runs_to(
         &rt,
         b"
 start:
@@ -248,10 +221,8 @@ start:
         jalr    r31, r10                # at 80010018h, so r31 is 80010020h
         nop
 ",
-    );
-    assert!(rt;
-        host.sent(Out::Trace)
-            .ends_with(b" BadPointer 80200000 80010020\n")
+        b"",
+        b" BadPointer 80200000 80010020\n",
     );
     let end = host.sent(Out::Ram).get(0x1F_FFFD..0x20_0000);
     assert!(rt; end.expect(&rt, "main memory") == b"\0AA".as_slice());
@@ -337,7 +308,7 @@ start:
 // r2 is the answer, k0 (r26) the address returned to, k1 (r27) 0, and all others are kept, HI and LO too.
 #[test]
 fn memset_keeps_all_other_registers(rt: HostRuntime) {
-    let host = ran(
+    let host = runs_to(
         &rt,
         b"
 start:
@@ -380,6 +351,8 @@ start:
         jr      r10
         nop
 ",
+        b"",
+        b" Exit 00000000\n",
     );
     let shown =
         b" 80010088 00000401 00001E61 00001A0A 00000101 1F800000 00000103 1F800000 00000105 00000006 00000107 00000108 0000002B 000000A0 \

@@ -1,4 +1,4 @@
-//! The calls that compare texts, find a byte in one and make small letters, each made by a program on the image.
+//! The calls that compare texts, find a byte and make small letters, each made by a program on the image.
 use crate::shows;
 use std::process::Abort;
 
@@ -171,6 +171,30 @@ rows:
 }
 
 #[test]
+fn memchr_looks_at_so_many_bytes(rt: HostRuntime) {
+    rows(
+        &rt,
+        b"
+rows:
+        .word   0x2E banana 'a' 6 banana+1
+        .word   0x2E banana 'n' 2 0
+        .word   0x2E banana 'n' 3 banana+2
+        .word   0x2E banana 0x16E 0x7FFFFFFF banana+2
+        .word   0x2E banana 0 7 banana+6        # a zero is a byte as each other
+        .word   0x2E 0xFFFF 'a' 0 0             # no byte is read
+        .word   0x2E 0xFFFF 'a' 0xFFFFFFFF 0
+        .word   0x2E 0xFFFF 'a' 0x80000000 0
+        .word   0x2E 0x801FFFFF 'x' 100 0x801FFFFF
+        .word   0x2E 0x9F8003FF 'x' 100 0x9F8003FF
+        .word   0x2E 0x801FFFFF 'y' 1 0
+        .word   0x2E 0x1F8003FF 'y' 1 0
+        .word   0x2E 0 'a' 3 0
+",
+        b" Exit 00000000\n",
+    );
+}
+
+#[test]
 fn tolower_changes_the_capitals_of_the_low_byte(rt: HostRuntime) {
     rows(
         &rt,
@@ -202,6 +226,12 @@ fn texts_without_a_zero_stop_where_user_memory_ends(rt: HostRuntime) {
     rows(&rt, b"rows: .word 0x1E 0x801FFFFF 0 0 0\n", stop);
     rows(&rt, b"rows: .word 0x1D 0x801FFFFF 'x' 0 0\n", stop);
     rows(&rt, b"rows: .word 0x1F 0x801FFFFF 'x' 0 0\n", stop);
+    rows(&rt, b"rows: .word 0x2E 0x801FFFFF 'y' 2 0\n", stop);
+    rows(
+        &rt,
+        b"rows: .word 0x2E 0x9F8003FF 'y' 2 0\n",
+        b" BadPointer 9F800400 8001004C\n",
+    );
 }
 
 #[test]

@@ -1,4 +1,6 @@
 //! Programs and hosts in memory for the tests of the top call.
+ghost use Rattle.std.specs.Prelude.{◌<◌, length};
+
 use psx_base::MemoryHost;
 use std::process::Abort;
 
@@ -60,3 +62,10 @@ X 39072 80010014 00000401 00000000 00000000 00000000 00000041 00000000 00000041 
 E 39076 00000020 000000A0 A 00000006
 S 39153 Exit 00000000
 ";
+
+// Whether bytes stand somewhere in others.
+pub(crate) fn stands_in(bytes: &[u8], part: &[u8]) -> bool
+    requires { 0 < length part.now }
+{
+    bytes.windows(part.len()).any(|window| window == part)
+}

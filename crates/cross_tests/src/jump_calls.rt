@@ -1,28 +1,7 @@
 //! setjmp, longjmp and FlushCache, each made by a program on the image.
-ghost use Rattle.std.specs.Prelude.{◌<◌, length};
-
-use crate::hosts::{RUN, host_of, host_with};
-use crate::shows;
-use psx_base::{MemoryHost, Out};
-use psxk_run::psxk;
-use std::process::Abort;
-
-// Assembles a text and runs it: the host behind the run.
-fn ran<R: AllocGlobal + Abort>(rt: &R, text: &[u8]) -> MemoryHost {
-    let mut maker = host_with(rt, "a.s", text);
-    assert_eq!(rt; psxk(rt.alloc(), &["asm", "a.s"], &mut maker), 0);
-    let mut host = host_of(rt, maker.sent(Out::Ram));
-    let status = psxk(rt.alloc(), &RUN, &mut host);
-    assert!(rt; status < 2);
-    host
-}
-
-// Whether bytes stand somewhere in others.
-fn stands_in(bytes: &[u8], part: &[u8]) -> bool
-    requires { 0 < length part.now }
-{
-    bytes.windows(part.len()).any(|window| window == part)
-}
+use crate::hosts::stands_in;
+use crate::{runs_to, shows};
+use psx_base::Out;
 
 #[test]
 fn longjmp_returns_to_the_place_of_setjmp(rt: HostRuntime) {
@@ -59,7 +38,7 @@ buffer: .space  48
 // The twelve are those of setjmp, all others those of longjmp. r26 is the place that is returned to.
 #[test]
 fn longjmp_gives_twelve_registers_back(rt: HostRuntime) {
-    let host = ran(
+    let host = runs_to(
         &rt,
         b"
 start:
@@ -104,6 +83,8 @@ done:
 
 buffer: .space  48
 ",
+        b"",
+        b" Exit 00000000\n",
     );
     let shown =
         b" 80010044 00000401 00000000 00000000 00000000 00000009 00000000 80010098 00000009 00000000 00000000 00000000 00000014 000000A0 \
@@ -187,7 +168,7 @@ start:
 // The three words before the first bad address stand: r31, sp and fp.
 #[test]
 fn setjmp_writes_up_to_the_end_of_memory_and_stops(rt: HostRuntime) {
-    let host = ran(
+    let host = runs_to(
         &rt,
         b"
 start:
@@ -199,10 +180,8 @@ start:
         jalr    r31, r10                # at 80010018h, so r31 is 80010020h
         nop
 ",
-    );
-    assert!(rt;
-        host.sent(Out::Trace)
-            .ends_with(b" BadPointer 80200000 80010020\n")
+        b"",
+        b" BadPointer 80200000 80010020\n",
     );
     let end = host.sent(Out::Ram).get(0x1F_FFF4..0x20_0000);
     assert!(rt;

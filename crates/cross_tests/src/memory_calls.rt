@@ -1,23 +1,6 @@
 //! The calls that copy, compare and clear bytes, each made by a program on the image.
-use crate::hosts::{RUN, host_of, host_with};
-use crate::shows;
-use psx_base::{MemoryHost, Out};
-use psxk_run::psxk;
-use std::process::Abort;
-
-// Assembles a text and runs it up to a stop that is no exit: the host behind the run.
-fn stopped<R: AllocGlobal + Abort>(rt: &R, text: &[u8], stop: &[u8]) -> MemoryHost {
-    let mut maker = host_with(rt, "a.s", text);
-    assert_eq!(rt;
-        psxk(rt.alloc(), &["asm", "a.s"], &mut maker),
-        0,
-        "{stop:?}"
-    );
-    let mut host = host_of(rt, maker.sent(Out::Ram));
-    assert_eq!(rt; psxk(rt.alloc(), &RUN, &mut host), 1, "{stop:?}");
-    assert!(rt; host.sent(Out::Trace).ends_with(stop), "{stop:?}");
-    host
-}
+use crate::{runs_to, shows};
+use psx_base::Out;
 
 // The text is moved one byte up, then another one two bytes down, so that each byte is one that it was before. Each answers where to.
 #[test]
@@ -115,7 +98,7 @@ third:  .asciiz \"abcdef\"
 // No byte is written where one of the source isn't user memory: the first bytes of the scratchpad stay 0.
 #[test]
 fn memmove_tests_the_whole_source_first(rt: HostRuntime) {
-    let host = stopped(
+    let host = runs_to(
         &rt,
         b"
 start:
@@ -129,6 +112,7 @@ start:
         jalr    r31, r10                # at 80010020h, so r31 is 80010028h
         nop
 ",
+        b"",
         b" BadPointer 80200000 80010028\n",
     );
     let scratchpad = host.sent(Out::Ram).get(0x20_0000..0x20_0004);
@@ -138,7 +122,7 @@ start:
 // Nor where one of the destination isn't: the last two bytes of main memory stay 0.
 #[test]
 fn memmove_tests_the_whole_destination_before_it_writes(rt: HostRuntime) {
-    let host = stopped(
+    let host = runs_to(
         &rt,
         b"
 start:
@@ -150,6 +134,7 @@ start:
         jalr    r31, r10                # at 8001001Ch, so r31 is 80010024h
         nop
 ",
+        b"",
         b" BadPointer 80200000 80010024\n",
     );
     let end = host.sent(Out::Ram).get(0x1F_FFFE..0x20_0000);
@@ -309,7 +294,7 @@ text:   .asciiz \"abcdef\"
 // What was copied before the end of user memory stands.
 #[test]
 fn bcopy_stops_where_user_memory_ends(rt: HostRuntime) {
-    let host = stopped(
+    let host = runs_to(
         &rt,
         b"
 start:
@@ -323,6 +308,7 @@ start:
 
 text:   .asciiz \"abcd\"
 ",
+        b"",
         b" BadPointer 80200000 80010024\n",
     );
     let end = host.sent(Out::Ram).get(0x1F_FFFE..0x20_0000);
@@ -360,7 +346,7 @@ bytes:  .word   0x44332211
 
 #[test]
 fn bzero_stops_where_user_memory_ends(rt: HostRuntime) {
-    let host = stopped(
+    let host = runs_to(
         &rt,
         b"
 start:
@@ -375,6 +361,7 @@ start:
         jalr    r31, r10                # at 80010024h, so r31 is 8001002Ch
         nop
 ",
+        b"",
         b" BadPointer 9F800400 8001002C\n",
     );
     let end = host.sent(Out::Ram).get(0x20_03FC..0x20_0400);

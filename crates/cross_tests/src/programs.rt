@@ -91,6 +91,206 @@ done:
 }
 
 #[test]
+fn events(rt: HostRuntime) {
+    shows(
+        &rt,
+        b"# Opens an event, and looks at it: nothing delivers it here, so no test finds it ready.
+# Then an element goes into a chain of interrupt handlers, and comes out again.
+# Each answer is written as a digit, that of SysDeqIntRP without its sign.
+
+.equ GATE_A        0xA0
+.equ GATE_B        0xB0
+.equ GATE_C        0xC0
+.equ EXIT          0x06
+.equ PUTCHAR       0x3C
+.equ OPEN_EVENT    0x08
+.equ CLOSE_EVENT   0x09
+.equ WAIT_EVENT    0x0A
+.equ TEST_EVENT    0x0B
+.equ ENABLE_EVENT  0x0C
+.equ DISABLE_EVENT 0x0D
+.equ SYS_ENQ       0x02
+.equ SYS_DEQ       0x03
+.equ MARK          0x2000               # a delivery makes the event ready
+
+start:
+        li      r20, GATE_B
+        jal     open
+        nop
+        move    r21, r2                 # its handle
+        move    r4, r21
+        jalr    r31, r20
+        li      r9, ENABLE_EVENT        # in the slot of the jump
+        move    r4, r21
+        jalr    r31, r20
+        li      r9, TEST_EVENT          # it is busy: 0
+        jal     show
+        nop
+        move    r4, r21
+        jalr    r31, r20
+        li      r9, DISABLE_EVENT
+        move    r4, r21
+        jalr    r31, r20
+        li      r9, WAIT_EVENT          # it is disabled, so this doesn't wait: 0
+        jal     show
+        nop
+        move    r4, r21
+        jalr    r31, r20
+        li      r9, CLOSE_EVENT         # 1
+        jal     show
+        nop
+        jal     open                    # the slot is free again, and has the same handle
+        nop
+        subu    r2, r2, r21             # 0
+        jal     show
+        nop
+
+        li      r20, GATE_C
+        jal     arguments
+        nop
+        jalr    r31, r20
+        li      r9, SYS_ENQ             # 0
+        jal     show
+        nop
+        jal     arguments
+        nop
+        jalr    r31, r20
+        li      r9, SYS_DEQ             # 0
+        jal     show
+        nop
+        jal     arguments
+        nop
+        jalr    r31, r20
+        li      r9, SYS_DEQ             # there is none left: -1
+        subu    r2, r0, r2
+        jal     show
+        nop
+        li      r4, 10
+        li      r9, PUTCHAR
+        li      r10, GATE_A
+        jalr    r31, r10
+        nop
+        li      r4, 0
+        li      r9, EXIT
+        jr      r10
+        nop
+
+# An event of class 12345678h and spec 4.
+open:
+        li      r4, 0x12345678
+        li      r5, 4
+        li      r6, MARK
+        li      r7, 0
+        li      r9, OPEN_EVENT
+        jr      r20                     # it returns to where open was called
+        nop
+
+# Chain 0, and the element.
+arguments:
+        li      r4, 0
+        la      r5, element
+        jr      r31
+        nop
+
+# Writes the digit in r2.
+show:
+        addiu   r4, r2, '0'
+        li      r9, PUTCHAR
+        li      r10, GATE_A
+        jr      r10
+        nop
+
+element:
+        .word   0, 0, 0                 # the next one, the second function, the first one
+",
+        b"0010001
+",
+        b" Exit 00000000
+",
+    );
+}
+
+#[test]
+fn heap(rt: HostRuntime) {
+    shows(
+        &rt,
+        b"# A linked list in the heap: an element for each letter of a text, with the next element's address at 0 and the letter at 4.
+# Each new element is put before the others, so the list is the text from its end. It is written and freed, and then the whole heap is free again.
+
+.equ GATE_A     0xA0
+.equ EXIT       0x06
+.equ MALLOC     0x33
+.equ FREE       0x34
+.equ INIT_HEAP  0x39
+.equ PUTCHAR    0x3C
+.equ PUTS       0x3E
+
+start:
+        li      r16, GATE_A
+        la      r4, heap                # from where,
+        li      r5, 256                 # and how many bytes
+        jalr    r31, r16
+        li      r9, INIT_HEAP           # in the slot of the jump
+        la      r17, text
+        li      r18, 0                  # the list: no element
+
+build:  lbu     r19, 0(r17)             # the next letter
+        addiu   r17, r17, 1
+        beq     r19, r0, write          # 0: the text ends
+        nop
+        li      r4, 8                   # an element's bytes
+        jalr    r31, r16
+        li      r9, MALLOC
+        beq     r2, r0, full            # no block is free
+        nop
+        sw      r18, 0(r2)
+        sw      r19, 4(r2)
+        b       build
+        move    r18, r2
+
+write:  beq     r18, r0, whole
+        nop
+        lw      r4, 4(r18)
+        jalr    r31, r16
+        li      r9, PUTCHAR
+        move    r4, r18
+        lw      r18, 0(r18)             # the next element, before this one is freed
+        jalr    r31, r16
+        li      r9, FREE
+        b       write
+        nop
+
+whole:  li      r4, 256                 # all blocks were joined, so there is one of this size
+        jalr    r31, r16
+        li      r9, MALLOC
+        la      r4, heap
+        beq     r2, r4, exit
+        li      r4, 0
+        li      r4, 1
+
+exit:   jr      r16
+        li      r9, EXIT
+
+full:   la      r4, none
+        jalr    r31, r16
+        li      r9, PUTS
+        b       exit
+        li      r4, 2
+
+text:   .asciiz \"\\nstressed\"
+none:   .asciiz \"no block is free\\n\"
+
+        .align  3
+heap:   .space  256
+",
+        b"desserts
+",
+        b" Exit 00000000
+",
+    );
+}
+
+#[test]
 fn hello(rt: HostRuntime) {
     shows(
         &rt,
@@ -317,6 +517,69 @@ back again
 }
 
 #[test]
+fn numbers(rt: HostRuntime) {
+    shows(
+        &rt,
+        b"# strtol reads the numbers of a line one by one, in the base that each one's prefix says, and tells where the rest begins; abs drops the sign of their sum.
+# 40 + 1Fh - 0FFh + 17 octal is 40 + 31 - 255 + 15 = -169, and without its sign 169, which is A9h. It is written as text by the program's own division.
+
+.equ GATE_A   0xA0
+.equ EXIT     0x06
+.equ STRTOL   0x0D
+.equ ABS      0x0E
+.equ PUTS     0x3E
+
+start:
+        li      r17, GATE_A
+        li      r18, 0                  # the sum so far
+        la      r4, line                # what is still to be read
+        la      r5, rest
+        li      r6, 0                   # each number says its base
+next:
+        jalr    r31, r17
+        li      r9, STRTOL              # in the slot of the jump
+        lw      r8, 0(r5)
+        addu    r18, r18, r2
+        beq     r8, r4, done            # no number was there
+        nop
+        beq     r0, r0, next
+        move    r4, r8
+done:
+        move    r4, r18
+        jalr    r31, r17
+        li      r9, ABS
+        move    r19, r2
+        la      r16, digits             # the digits come from the last one on
+        li      r10, 10
+digit:
+        divu    r2, r10
+        mfhi    r8
+        mflo    r2
+        addiu   r8, r8, '0'
+        addiu   r16, r16, -1
+        bne     r2, r0, digit
+        sb      r8, 0(r16)
+        move    r4, r16
+        jalr    r31, r17
+        li      r9, PUTS
+        move    r4, r19                 # the code is the sum without its sign
+        jr      r17
+        li      r9, EXIT
+
+        .align  4
+rest:   .word   0
+line:   .asciiz \"40 0x1F -0xff\\t017 end\"
+        .space  11
+digits: .asciiz \"\\n\"
+",
+        b"169
+",
+        b" Exit 000000A9
+",
+    );
+}
+
+#[test]
 fn registers(rt: HostRuntime) {
     shows(
         &rt,
@@ -455,6 +718,90 @@ lost:   .asciiz \"!\\n\"
         b"kept
 ",
         b" Exit 00000000
+",
+    );
+}
+
+#[test]
+fn ring(rt: HostRuntime) {
+    shows(
+        &rt,
+        b"# Four threads pass a token round a ring, a hundred times. Each has its letter in gp and counts its turns in r16; at each 25th turn it writes the letter.
+# The stack of each has 256 bytes. The first thread ends with the token, which each turn raises by 1.
+
+.equ GATE_A         0xA0
+.equ GATE_B         0xB0
+.equ EXIT           0x06                # in table A
+.equ PUTCHAR        0x3C
+.equ OPEN_THREAD    0x0E                # in table B
+.equ CHANGE_THREAD  0x10
+.equ FIRST          0xFF000000          # the first thread's handle
+
+start:
+        li      r28, 'A'
+        li      r5, 0x80100000
+        li      r6, 'B'
+        li      r8, 'E'
+open:
+        la      r4, turns
+        li      r9, OPEN_THREAD
+        li      r10, GATE_B
+        jalr    r31, r10                # FF000001h and on, for B, C and D
+        nop
+        addiu   r6, r6, 1
+        bne     r6, r8, open
+        addiu   r5, r5, -256            # in the slot
+
+# where each thread begins, the first one by falling in
+turns:
+        li      r16, 0
+        li      r17, 25                 # the turn at which it writes
+        li      r18, FIRST
+        addiu   r8, r28, -64            # the next thread's number: 1 for A, up to 4 for D
+        addiu   r11, r8, -4
+        beq     r11, r0, turn           # behind the last comes the first
+        nop
+        addu    r18, r18, r8
+turn:
+        la      r19, token
+        lw      r20, 0(r19)
+        addiu   r16, r16, 1
+        addiu   r20, r20, 1
+        sw      r20, 0(r19)
+        bne     r16, r17, pass
+        nop
+        addiu   r17, r17, 25
+        move    r4, r28
+        li      r9, PUTCHAR
+        li      r10, GATE_A
+        jalr    r31, r10
+        nop
+pass:
+        move    r4, r18
+        li      r9, CHANGE_THREAD
+        li      r10, GATE_B
+        jalr    r31, r10                # goes on here when the token comes back
+        nop
+        li      r8, 100
+        bne     r16, r8, turn
+        nop
+        # the first thread comes here first
+        li      r4, 0x0A                # a line feed
+        li      r9, PUTCHAR
+        li      r10, GATE_A
+        jalr    r31, r10
+        nop
+        la      r19, token
+        lw      r4, 0(r19)
+        li      r9, EXIT
+        jr      r10
+        nop
+
+token:  .word   0
+",
+        b"ABCDABCDABCDABCD
+",
+        b" Exit 00000190
 ",
     );
 }

@@ -199,3 +199,192 @@ start:
         b" UserFetch 00000000\n",
     );
 }
+
+// All four slots are opened but one, and the last is closed, which answers 1. Changing to it then stops.
+#[test]
+fn a_thread_that_was_closed_is_a_bad_handle(rt: HostRuntime) {
+    shows(
+        &rt,
+        b"
+start:
+        li      r10, 0xB0
+        la      r16, answers
+        la      r17, answers_end
+more:
+        li      r9, 0x0E                # OpenThread
+        jalr    r31, r10
+        nop
+        lw      r8, 0(r16)
+        nop
+        bne     r2, r8, wrong
+        nop
+        addiu   r16, r16, 4
+        bne     r16, r17, more
+        nop
+        li      r4, 0xFF000003
+        li      r9, 0x0F                # CloseThread
+        jalr    r31, r10
+        nop
+        li      r8, 1
+        bne     r2, r8, wrong
+        nop
+        li      r9, 0x10                # ChangeThread
+        li      r31, 0x80018000
+        jr      r10
+        nop
+wrong:
+        li      r10, 0xA0
+        li      r9, 0x06                # exit
+        jr      r10
+        nop
+answers: .word  0xFF000001 0xFF000002 0xFF000003 0xFFFFFFFF
+answers_end:
+",
+        b"",
+        b" BadThread FF000003 80018000\n",
+    );
+}
+
+#[test]
+fn closing_a_free_slot_answers_1(rt: HostRuntime) {
+    shows(
+        &rt,
+        b"
+start:
+        li      r10, 0xB0
+        li      r4, 0xFF000002
+        li      r9, 0x0F                # CloseThread
+        jalr    r31, r10
+        nop
+        move    r4, r2
+        li      r10, 0xA0
+        li      r9, 0x06                # exit
+        jr      r10
+        nop
+",
+        b"",
+        b" Exit 00000001\n",
+    );
+}
+
+// The running thread closes its own slot, which stays the running one's: the next slot is opened. From there the first slot is the lowest free one.
+#[test]
+fn the_running_slot_is_not_opened(rt: HostRuntime) {
+    shows(
+        &rt,
+        b"
+start:
+        li      r10, 0xB0
+        li      r4, 0xFF000000
+        li      r9, 0x0F                # CloseThread
+        jalr    r31, r10
+        nop
+        la      r4, other
+        li      r9, 0x0E                # OpenThread
+        jalr    r31, r10
+        nop
+        li      r8, 0xFF000001
+        bne     r2, r8, end
+        move    r4, r2
+        li      r9, 0x10                # ChangeThread
+        jalr    r31, r10
+        nop
+other:
+        li      r10, 0xB0
+        li      r9, 0x0E                # OpenThread
+        jalr    r31, r10
+        nop
+        move    r4, r2
+end:
+        li      r10, 0xA0
+        li      r9, 0x06                # exit
+        jr      r10
+        nop
+",
+        b"",
+        b" Exit FF000000\n",
+    );
+}
+
+// A caller whose slot is free isn't kept.
+#[test]
+fn a_free_running_slot_keeps_nothing(rt: HostRuntime) {
+    shows(
+        &rt,
+        b"
+start:
+        li      r10, 0xB0
+        la      r4, other
+        li      r9, 0x0E                # OpenThread
+        jalr    r31, r10
+        nop
+        move    r16, r2
+        li      r4, 0xFF000000
+        li      r9, 0x0F                # CloseThread
+        jalr    r31, r10
+        nop
+        move    r4, r16
+        li      r9, 0x10                # ChangeThread
+        jalr    r31, r10
+        nop
+other:
+        li      r10, 0xB0
+        li      r4, 0xFF000000
+        li      r9, 0x10                # ChangeThread
+        li      r31, 0x80018000
+        jr      r10
+        nop
+",
+        b"",
+        b" BadThread FF000000 80018000\n",
+    );
+}
+
+// The first thread turns interrupts off. The other one begins with them on, and turns them off and on. Back in the first they are off still.
+#[test]
+fn each_thread_has_its_own_interrupts(rt: HostRuntime) {
+    shows(
+        &rt,
+        b"
+start:
+        li      r10, 0xB0
+        la      r4, other
+        li      r5, 0x80100000
+        li      r9, 0x0E                # OpenThread
+        jalr    r31, r10
+        nop
+        move    r16, r2
+        li      r4, 1
+        syscall                         # off
+        move    r4, r16
+        li      r9, 0x10                # ChangeThread
+        jalr    r31, r10
+        nop
+        li      r4, 1
+        syscall
+        la      r8, was
+        lw      r4, 0(r8)
+        sll     r2, r2, 4
+        or      r4, r4, r2              # 0 in the upper digit: they were off
+        li      r10, 0xA0
+        li      r9, 0x06                # exit
+        jr      r10
+        nop
+other:
+        li      r4, 1
+        syscall
+        la      r8, was
+        sw      r2, 0(r8)               # 1: they were on
+        li      r4, 2
+        syscall
+        li      r10, 0xB0
+        li      r4, 0xFF000000
+        li      r9, 0x10                # ChangeThread
+        jalr    r31, r10
+        nop
+was:    .word   0
+",
+        b"",
+        b" Exit 00000001\n",
+    );
+}

@@ -1,20 +1,7 @@
 //! The calls that take bytes of the console, and wait, each made by a program on the image. The program begins at the count 38941, and a byte of the schedule comes when its count does.
-use crate::hosts::{RUN_WITH, host_of, host_with};
-use crate::shows_with;
-use psx_base::{MemoryHost, Out};
-use psxk_run::psxk;
+use crate::{runs_to, shows_with};
+use psx_base::Out;
 use std::process::Abort;
-
-// Assembles a text and runs it with a schedule: the host behind the run.
-fn ran<R: AllocGlobal + Abort>(rt: &R, text: &[u8], schedule: &[u8]) -> MemoryHost {
-    let mut maker = host_with(rt, "a.s", text);
-    assert_eq!(rt; psxk(rt.alloc(), &["asm", "a.s"], &mut maker), 0);
-    let mut host = host_of(rt, maker.sent(Out::Ram));
-    host.put("s", schedule).expect(rt, "put");
-    let status = psxk(rt.alloc(), &RUN_WITH, &mut host);
-    assert!(rt; status < 2);
-    host
-}
 
 const GETCHAR: &[u8] = b"
 start:
@@ -40,7 +27,7 @@ fn getchar_waits_for_a_byte_and_answers_it(rt: HostRuntime) {
 // A try goes back to the gate: k0 (r26) is its address and k1 (r27) 0, and r2 and all others are as they were.
 #[test]
 fn a_try_changes_k0_and_k1_alone(rt: HostRuntime) {
-    let host = ran(&rt, GETCHAR, b"43941 byte 41\n");
+    let host = runs_to(&rt, GETCHAR, b"43941 byte 41\n", b" Exit 00000041\n");
     let shown =
         b" 000000A0 00000401 00000000 00000000 00000000 00000005 00000000 00000006 00000000 00000000 00000000 00000000 0000003B 000000A0 \
 00000000 00000000 00000000 00000000 00000000 00000000 00000000 00000000 00000000 00000000 00000000 00000000 00000000 00000000 00000000 \
@@ -193,7 +180,7 @@ start:
 
 #[test]
 fn gets_stops_where_user_memory_ends_before_the_line(rt: HostRuntime) {
-    let host = ran(
+    let host = runs_to(
         &rt,
         b"
 start:
@@ -204,10 +191,7 @@ start:
         nop
 ",
         b"1 byte 41\n1 byte 42\n1 byte 0A\n",
-    );
-    assert!(rt;
-        host.sent(Out::Trace)
-            .ends_with(b" BadPointer 80200000 80010018\n")
+        b" BadPointer 80200000 80010018\n",
     );
     let end = host.sent(Out::Ram).get(0x1F_FFFE..0x20_0000);
     assert!(rt; end.expect(&rt, "main memory") == b"AB".as_slice());
@@ -344,10 +328,11 @@ start:
         nop
 "
         .as_slice();
-    let host = ran(&rt, text, b"43941 byte 41\n");
-    assert!(rt;
-        host.sent(Out::Trace)
-            .ends_with(b" BadPointer 80200000 80010020\n")
+    let host = runs_to(
+        &rt,
+        text,
+        b"43941 byte 41\n",
+        b" BadPointer 80200000 80010020\n",
     );
     let end = host.sent(Out::Ram).get(0x1F_FFFF..0x20_0000);
     assert!(rt; end.expect(&rt, "main memory") == b"A".as_slice());
