@@ -58,7 +58,10 @@ fn played<R: AllocGlobal + Abort>(rt: &R, calls: &[Call], stop: &[u8]) -> Memory
     // The program's words, and zeros up to the list.
     for _ in 0..0x20 {
         let word = match chunks.next() {
-            Some(word) => u32::from_le_bytes([word[0], word[1], word[2], word[3]]),
+            Some(word) => {
+                assert!(rt; word.len() == 4, "a word");
+                u32::from_le_bytes([word[0], word[1], word[2], word[3]])
+            }
             None => 0,
         };
         words.push(word).expect(rt, "room");
@@ -101,6 +104,7 @@ pub(crate) fn answers<R: AllocGlobal + Abort>(rt: &R, calls: &[(Call, u32)]) -> 
     let mut kept = memory(rt, &host, 0x2_0000).chunks_exact(4);
     for (call, answer) in calls {
         let word = kept.next().expect(rt, "an answer");
+        assert!(rt; word.len() == 4, "a word");
         assert_eq!(rt;
             u32::from_le_bytes([word[0], word[1], word[2], word[3]]),
             *answer,
