@@ -25,9 +25,9 @@ fn holds_known_bytes(rt: HostRuntime) {
         (0x100C0, 0x0C),
         (0x100D0, 0x0C),
         (0x100E0, 0x0C),
-        // table A serves the number 3Ch in the cached segment, and not 3Bh
+        // table A serves the number 3Ch in the cached segment, and not 05h
         (0x102F3, 0x80),
-        (0x102EF, 0x00),
+        (0x10217, 0x00),
         // thread 0 is used, status 4000h, and thread 1 is free, status 1000h
         (0x1B001, 0x40),
         (0x1B0C1, 0x10),

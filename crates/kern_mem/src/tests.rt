@@ -30,13 +30,13 @@ fn places_the_calls(rt: HostRuntime) -> Result<(), Fail> {
     assert_eq!(rt; block.word(0x3F0C), 0x2508_0001);
     assert_eq!(rt; block.word(0x3F10), 0xA12C_0000);
     // setjmp: lui t4, 8001h; lw t5, EB84h(t4).
-    assert_eq!(rt; block.word(0x3F80), 0x3C0C_8001);
-    assert_eq!(rt; block.word(0x3F84), 0x8D8D_EB84);
+    assert_eq!(rt; block.word(0x4340), 0x3C0C_8001);
+    assert_eq!(rt; block.word(0x4344), 0x8D8D_EB84);
     // longjmp: or t0, zero, a0; addiu t9, zero, 12.
-    assert_eq!(rt; block.word(0x4080), 0x0004_4025);
-    assert_eq!(rt; block.word(0x4084), 0x2419_000C);
+    assert_eq!(rt; block.word(0x4440), 0x0004_4025);
+    assert_eq!(rt; block.word(0x4444), 0x2419_000C);
     // FlushCache: or v0, zero, zero.
-    assert_eq!(rt; block.word(0x4140), 0x0000_1025);
+    assert_eq!(rt; block.word(0x4500), 0x0000_1025);
     Ok(())
 }
 
