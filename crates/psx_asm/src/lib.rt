@@ -20,8 +20,6 @@ mod statement;
 mod symbol;
 mod symbols;
 mod table;
-#[cfg(test)]
-mod tests;
 
 pub use assembly::{assemble, object_or_fault};
 pub use fault::{AsmError, AsmFault};

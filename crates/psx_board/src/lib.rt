@@ -5,7 +5,5 @@
 pub mod board;
 mod devices;
 pub mod law;
-#[cfg(test)]
-mod tests;
 
 pub use board::Board;

@@ -10,8 +10,6 @@ mod outcomes;
 mod peek;
 mod perform;
 pub mod step;
-#[cfg(test)]
-mod tests;
 
 pub use cpu::Cpu;
 pub use step::{BusAnswer, Did, PortRead};

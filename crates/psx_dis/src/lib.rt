@@ -9,8 +9,6 @@ mod mnemonics;
 mod operands;
 mod printer;
 mod target;
-#[cfg(test)]
-mod tests;
 mod text;
 
 pub use law::assembles_back;

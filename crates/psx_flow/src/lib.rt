@@ -16,8 +16,6 @@ pub mod node;
 mod reading;
 mod sizing;
 mod spacing;
-#[cfg(test)]
-mod tests;
 
 pub use kinds::Tested;
 pub use lowering::lower;

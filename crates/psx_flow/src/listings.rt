@@ -101,27 +101,3 @@ pub fn tested(kind: Tested) -> &'static [Node]
         Tested::WriteWord => &WRITE_WORD,
     }
 }
-
-#[cfg(test)]
-mod tests {
-    use super::*;
-    use crate::law::{loads_settle, ops_run, ports_are_told, runs_are_made, words_run};
-    use crate::size_of;
-
-    #[test]
-    fn four_listings_have_their_words(rt: HostRuntime) {
-        assert_eq!(rt; size_of(tested(Tested::ReadByte)), 26);
-        assert_eq!(rt; size_of(tested(Tested::WriteByte)), 25);
-        assert_eq!(rt; size_of(tested(Tested::ReadWord)), 29);
-        assert_eq!(rt; size_of(tested(Tested::WriteWord)), 28);
-    }
-
-    #[test]
-    fn laws_do_nothing() {
-        loads_settle();
-        words_run();
-        runs_are_made();
-        ops_run();
-        ports_are_told();
-    }
-}

@@ -2,8 +2,8 @@
 ghost use Rattle.psx_sched.specs.Schedule.{IsPlausible};
 ghost use Rattle.std.specs.Prelude.{◌≡◌, ◌≤◌, ◌+◌, IfOk, length};
 
-use crate::Board;
 use psx_base::{Sizes, Stop};
+use psx_board::Board;
 use psx_cpu::Did;
 use psx_exe::Exe;
 use psx_ins::reg::Reg;

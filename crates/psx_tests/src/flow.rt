@@ -1,5 +1,8 @@
 // Listings and their words, which are by LLVM's assembler for MIPS I; and listings that break one rule each.
-use crate::{Node, Test, lower, size_of, spaced, well};
+use psx_flow::kinds::Tested;
+use psx_flow::law::{loads_settle, ops_run, ports_are_told, runs_are_made, words_run};
+use psx_flow::listings::tested;
+use psx_flow::{Node, Test, lower, size_of, spaced, well};
 use psx_ins::ins::Ins;
 use psx_ins::reg::Reg;
 
@@ -249,4 +252,21 @@ fn loads_have_room(rt: HostRuntime) {
             imm: 0
         })])
     );
+}
+
+#[test]
+fn four_listings_have_their_words(rt: HostRuntime) {
+    assert_eq!(rt; size_of(tested(Tested::ReadByte)), 26);
+    assert_eq!(rt; size_of(tested(Tested::WriteByte)), 25);
+    assert_eq!(rt; size_of(tested(Tested::ReadWord)), 29);
+    assert_eq!(rt; size_of(tested(Tested::WriteWord)), 28);
+}
+
+#[test]
+fn laws_do_nothing() {
+    loads_settle();
+    words_run();
+    runs_are_made();
+    ops_run();
+    ports_are_told();
 }

@@ -1,8 +1,8 @@
 // Short programs in the ROM, each word as an assembler gives it. r1 is the address of the bytes 11h, 22h, .. 88h.
 ghost use Rattle.std.specs.Prelude.{◌≡◌, IfOk, length};
 
-use crate::{BusAnswer, Cpu, Did, PortRead};
 use psx_base::Stop;
+use psx_cpu::{BusAnswer, Cpu, Did, PortRead};
 use psx_ins::reg::Reg;
 use psx_ram::Ram;
 use std::alloc::{AllocError, Global};

@@ -1,4 +1,4 @@
-use crate::{AsmError, AsmFault, Object, assemble};
+use psx_asm::{AsmError, AsmFault, Object, assemble};
 use std::alloc::Global;
 use std::process::Abort;
 use std::test::Fail;

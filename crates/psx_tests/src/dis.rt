@@ -1,7 +1,7 @@
 //! Words and their printed forms, put together by hand from the instruction table.
 
-use crate::{mnemonic, print};
 use psx_asm::assemble;
+use psx_dis::{mnemonic, print};
 use psx_ins::ins::Ins;
 use std::test::Fail;
 
