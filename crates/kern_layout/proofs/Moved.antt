@@ -1,6 +1,6 @@
 -- Frames that are pushed and dropped, elements of chains, the line, and another running thread.
 use Rattle.std.proofs.Common.{◌≡◌, ℕ, zero, suc, ◌+◌, ◌*◌, ◌%◌, ◌<◌, ◌≤◌, cond, List, [], ◌∷◌, ◌++◌, length, refl, sym, ap, ◌∙◌, subst, arith, inl, inr, ⊎_elim, take, get_or-set_other, eq-eqb, ne_eqb}
-use Rattle.std.specs.Prelude.{◌⊎◌, slice_index_or, slice_set}
+use Rattle.std.specs.Prelude.{◌⊎◌, None, slice_index_or, slice_set}
 use Rattle.std.proofs.lemmas.List.{length-append, length-set, length-take-le, get_or-take, get_or-set_same}
 use Rattle.std.proofs.lemmas.Bool.{cases_lt, cases_eq}
 use Rattle.psx_base.specs.KernelState.{Thread, Free, Used, Frame, KernelState}
@@ -44,8 +44,30 @@ counted s w x first high n k e count old =
     let back = block_same w x 0xEA00 0xC 0x100 ((0xC, length s.threads) ∷ (0x10, length s.events) ∷ (0x14, s.random) ∷ (0x18, s.token) ∷ (0x1C, s.errno) ∷ (0x20, length s.line) ∷ (0x24, s.heap.base) ∷ []) refl refl high old.1.1.1 in
     (front.0, (front.1.0, (count ∙ e, back)))
 
--- a frame is written behind the last one, and counted
-pub reads_pushed : (s : KernelState) → Valid s → (w x b c : ℕ → ℕ) → SameBytes 0xE900 0xEA00 b c → (f : Frame) → Same 0xB000 (frame_at (length s.frames)) w x → Same 0xCF00 0xE900 w x → Same 0xEA00 0xEA08 w x → Same 0xEA0C 0xEB00 w x → FrameAt x (frame_at (length s.frames)) f → x 0xEA08 ≡ suc (length s.frames) → Reads s w b → Reads record s { frames = s.frames ++ f ∷ [] } x c
+-- a valid state is valid with no thread to take up
+pub without_next : (s : KernelState) → Valid s → Valid (record s { next = None })
+without_next s v = record {
+  threads_least = v.threads_least;
+  threads_most = v.threads_most;
+  threads = v.threads;
+  current = v.current;
+  running = v.running;
+  next = tt;
+  events_least = v.events_least;
+  events_most = v.events_most;
+  statuses = v.statuses;
+  frames_most = v.frames_most;
+  frames = v.frames;
+  chains_count = v.chains_count;
+  chains = v.chains;
+  heap = v.heap;
+  files_count = v.files_count;
+  files = v.files;
+  line = v.line;
+}
+
+-- A frame is written behind the last one, and counted. The thread to take up may be any.
+pub reads_pushed : (s : KernelState) → Valid (record s { next = None }) → (w x b c : ℕ → ℕ) → SameBytes 0xE900 0xEA00 b c → (f : Frame) → Same 0xB000 (frame_at (length s.frames)) w x → Same 0xCF00 0xE900 w x → Same 0xEA00 0xEA08 w x → Same 0xEA0C 0xEB00 w x → FrameAt x (frame_at (length s.frames)) f → x 0xEA08 ≡ suc (length s.frames) → Reads s w b → Reads record s { frames = s.frames ++ f ∷ [] } x c
 reads_pushed s v w x b c line f low mid first high new count old = record {
   threads = kept.threads_kept s.current s.threads v.threads_most w x (λ a m lo up. low a m lo (omega (arith, up))) old.threads;
   events = kept.events_kept s.events v.events_most w x (λ a m lo up. low a m (omega (arith, lo)) (omega (arith, up))) old.events;

@@ -189,9 +189,6 @@ pub const LEAVE: u32 = 0x1400;
 /// Where a call arrives that waits: the context of the work area is taken up as it is.
 pub const WAIT: u32 = LEAVE + 0x80;
 
-/// Where a routine arrives with tasks to do.
-pub const WORK: u32 = 0x1600;
-
 /// Where a routine arrives with an address in r8 that isn't user memory.
 pub const BAD_POINTER: u32 = 0x1800;
 
@@ -200,6 +197,18 @@ pub const BAD_THREAD: u32 = 0x1820;
 
 /// Where a stay arrives that needs a frame more than there is room for.
 pub const DEEP: u32 = 0x1840;
+
+/// Where the return of a function arrives that the kernel hasn't called.
+pub const BAD_RETURN: u32 = 0x1860;
+
+/// Where a stay arrives with tasks to do before a context is taken up.
+pub const WORK: u32 = 0x1880;
+
+/// Where a stay arrives that calls a function, with the tasks that will be left.
+pub const PUSH: u32 = 0x1B40;
+
+/// Where a stay arrives that has no task left, and takes up its context.
+pub const TAKE_UP: u32 = 0x1C80;
 
 /// The listing that reads a byte of user memory, or tells that it is none. Room for 40 words, as for the three that follow.
 pub const TESTED_READ_BYTE: u32 = 0x1D80;
@@ -222,6 +231,6 @@ pub fn blocks_fit()
     ensures heap { HEAP_TABLE.from + HEAP_ENTRIES * HEAP_ENTRY_SIZE ≤ HEAP_TABLE.to }
     ensures files { FILES.from + FILE_BLOCKS * FILE_SIZE ≤ FILES.to }
     ensures work_area { (STACK.from ≡ WORK_AREA) × (WORK_AREA + FRAME_SIZE ≤ STACK.to) }
-    ensures joins { (ENTRY_CODE.from < LEAVE) × (LEAVE < WAIT) × (WAIT < WORK) × (WORK < BAD_POINTER) × (BAD_POINTER < BAD_THREAD) × (BAD_THREAD < DEEP) × (DEEP < TESTED_READ_BYTE) }
+    ensures joins { (ENTRY_CODE.from < LEAVE) × (LEAVE < WAIT) × (WAIT < BAD_POINTER) × (BAD_POINTER < BAD_THREAD) × (BAD_THREAD < DEEP) × (DEEP < BAD_RETURN) × (BAD_RETURN < WORK) × (WORK < PUSH) × (PUSH < TAKE_UP) × (TAKE_UP < TESTED_READ_BYTE) }
     ensures tested { (TESTED_READ_BYTE + 160 ≤ TESTED_WRITE_BYTE) × (TESTED_WRITE_BYTE + 160 ≤ TESTED_READ_WORD) × (TESTED_READ_WORD + 160 ≤ TESTED_WRITE_WORD) × (TESTED_WRITE_WORD + 160 ≤ ENTRY_CODE.to) }
 {}
