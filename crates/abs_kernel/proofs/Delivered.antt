@@ -1,19 +1,26 @@
 -- What a delivery makes ready, and what frames keep.
 use Rattle.std.proofs.Common.{◌≡◌, ℕ, zero, suc, ◌+◌, ◌-◌, ◌%◌, ◌^◌, ◌<◌, ◌≤◌, Bool, true, false, List, [], ◌∷◌, ◌++◌, length, refl, sym, ap, ◌∙◌, subst, arith, ⊎_elim, take, drop, get_or-set_same, get_or-set_other}
-use Rattle.std.specs.Prelude.{Option, Some, None, nat_eq, not, ◌&&◌, map, slice_set, slice_index_or, if◌then◌else◌}
+use Rattle.std.specs.Prelude.{Option, Some, None, nat_eq, nat_lt, not, ◌&&◌, map, slice_set, slice_index_or, if◌then◌else◌}
 use Rattle.std.proofs.lemmas.List.{length-set, set-get_or}
 use Rattle.std.proofs.lemmas.Bool.{true≢false, false≢true, cases_eq, cases_lt}
 use Rattle.psx_base.specs.Context.{Context, settled}
-use Rattle.psx_base.specs.KernelState.{Event, Frame, KernelState}
-use Rattle.kern_layout.specs.Reads.{event, no_event}
-use Rattle.abs_kernel.specs.Stay.{Stay}
+use Rattle.psx_base.specs.declared.stop.Stop.TheVariants.{Deep}
+use Rattle.psx_base.specs.KernelState.{ThreadContext, Free, Used, Event, Element, Line, Frame, KernelState}
+use Rattle.kern_layout.specs.Reads.{thread, event, no_event}
+use Rattle.std.specs.List.{filter}
+use Rattle.psx_base.specs.Ports.{I_STAT}
+use Rattle.abs_kernel.specs.Stay.{Stay, Return, Halt, Tell}
 use Rattle.abs_kernel.specs.Answered.{registers_of}
-use Rattle.abs_kernel.specs.Callback.{pushed}
+use Rattle.abs_kernel.specs.Callback.{pushed, callback}
 use Rattle.abs_kernel.specs.Events.{marked}
 use Rattle.abs_kernel.specs.Scan.{calling, matches, is_marked, is_called, made_ready, with_ready, scan}
-use Rattle.abs_kernel.specs.Tasks.{work}
+use Rattle.abs_kernel.specs.Switching.{keeps, context_of}
+use Rattle.abs_kernel.specs.TakingUp.{taken_up, gives_way, resumed_by, resumed}
+use Rattle.abs_kernel.specs.Tasks.{without_line, class_of_line, SPEC_OF_LINES, work}
+use Rattle.abs_kernel.specs.Interrupt.{handled, is_due}
+use Rattle.abs_kernel.specs.InterruptLaws.{LineIsHandled, OnlyLines}
 use Rattle.abs_kernel.specs.Returning.{innermost, without_innermost, popped, pops_by}
-use Rattle.abs_kernel.specs.WorkLaws.{delivered, Delivered, NoneCalled, DeliversToAll, DeliversToTheLast, DeliversToACall, LastInFirstOut, GoesOnWithLast, TakenUpAsKept, CallbackLeavesNothing}
+use Rattle.abs_kernel.specs.WorkLaws.{delivered, Delivered, NoneCalled, DeliversToAll, DeliversToTheLast, DeliversToACall, LastInFirstOut, GoesOnWithLast, TakenUpAsKept, CallbackLeavesNothing, DropsTasks, EightFrames, NamedIsTakenUp, NamedWaits}
 
 -- ---- a list in which the elements from number i on are changed by f
 
@@ -163,6 +170,12 @@ delivers_to_the_last s c ts class spec from value ra le h = last_delivered class
 pub delivers_to_a_call : DeliversToACall
 delivers_to_a_call s c ts class spec from to value ra le lt h g = call_delivered class spec (length s.events - from) from to s _ _ (omega (arith, le, lt)) le lt h g
 
+pub line_is_handled : LineIsHandled
+line_is_handled s c ts n value ra h = ap (λ stay. Tell I_STAT (without_line n) stay) (scanned (class_of_line n) SPEC_OF_LINES (length s.events) 0 s _ _ (omega arith) (λ k le lt. h k no_event lt))
+
+pub only_lines : OnlyLines
+only_lines s stat mask none = ap (λ es. map Element es ++ map Line (filter (is_due stat mask) handled)) none
+
 -- ---- frames
 
 innermost_last : (fs : List Frame) (f : Frame) → (innermost (fs ++ (f ∷ [])) ≡ Some f) × (without_innermost (fs ++ (f ∷ [])) ≡ fs)
@@ -194,3 +207,48 @@ taken_up_as_kept c r =
 
 pub callback_leaves_nothing : CallbackLeavesNothing
 callback_leaves_nothing s c running = goes_on_with_last (record (pushed s (record { context = c; tasks = [] })) { running = running }) s.frames (record { context = c; tasks = [] }) refl
+
+pub drops_tasks : DropsTasks
+drops_tasks s fs f e =
+    let h = innermost_last fs f in
+    ap (λ o. pops_by s (λ g. resumed (popped s) g.context) o) (ap innermost e ∙ h.0) ∙ ap (λ us. resumed (record s { frames = us }) f.context) (ap without_innermost e ∙ h.1)
+
+below : (a b : ℕ) → a < b → nat_lt a b ≡ true
+below a b h = grind arith
+
+not_below : (a b : ℕ) → b ≤ a → nat_lt a b ≡ false
+not_below a b h = grind arith
+
+pub eight_frames : EightFrames
+eight_frames s c left function argument ra =
+    let called : Stay = Return (record (pushed s (record { context = c; tasks = left })) { running = callback c.context function argument }) in
+    let either : Bool → Stay = λ b. if b then called else Halt (Deep ra) s.memory in
+    (λ few. ap either (below (length s.frames) 8 few), λ many. ap either (not_below (length s.frames) 8 many))
+
+-- ---- the thread that a callback has named
+
+pub named_waits : NamedWaits
+named_waits s f fs c e = ap (λ us. Return (resumed_by s c s.next us)) e ∙ either s.next
+  where
+    either : (o : Option ℕ) → Return (resumed_by s c o (f ∷ fs)) ≡ Return (record s { running = taken_up c })
+    either None = refl
+    either (Some n) = refl
+
+pub named_is_taken_up : NamedIsTakenUp
+named_is_taken_up s f n own other frames rests next few mine its =
+    let c : ThreadContext = f.context in
+    let now = keeps (taken_up c) (thread s s.current) in
+    let last : KernelState = record s { frames = [] } in
+    let up : resumed last c ≡ Return (gives_way last c n) = ap (λ o. Return (resumed_by last c o [])) next in
+    let by_work = λ (none : f.tasks ≡ []). ap (λ ts. work last c ts (registers_of s).r2 (registers_of s).r31) none in (
+      gives_way last c n,
+      record {
+        running = ap context_of its;
+        current = refl;
+        none = refl;
+        slot = get_or-set_same s.threads s.current now Free few ∙ ap (keeps (taken_up c)) mine ∙ ap Used (taken_up_as_kept c rests);
+        others = λ k ne. get_or-set_other s.threads s.current k now Free ne;
+      },
+      λ none. goes_on_with_last s [] f frames ∙ by_work none ∙ up,
+      drops_tasks s [] f frames ∙ up,
+    )

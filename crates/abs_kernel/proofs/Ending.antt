@@ -1,19 +1,21 @@
 -- How a stay ends: it halts with the memory as it is, or returns at rest with what its part may change.
-use Rattle.std.proofs.Common.{◌≡◌, ℕ, Bool, true, false, refl, Option, ◌≤◌, List, length}
+use Rattle.std.proofs.Common.{◌≡◌, ℕ, Bool, true, false, refl, sym, ◌∙◌, Option, ◌≤◌, List, length}
 use Rattle.std.specs.Prelude.{◌||◌, nat_eq, if◌then◌else◌}
+use Rattle.std.proofs.lemmas.Bool.{false≢true}
 use Rattle.psx_base.specs.declared.stop.Stop.{Stop}
 use Rattle.psx_base.specs.Memory.{Memory}
 use Rattle.psx_base.specs.Context.{Context, epc_of, taken, IsAtRest}
-use Rattle.psx_base.specs.KernelState.{Thread, Event, KernelState, Heap}
+use Rattle.psx_base.specs.KernelState.{Thread, Event, Frame, KernelState, Heap}
 use Rattle.abs_kernel.specs.Answered.{registers_of, with_answer, answered, waits}
 use Rattle.abs_kernel.specs.Stay.{Stay}
-use Rattle.kern_layout.specs.Valid.{HeapFits, Valid}
+use Rattle.kern_layout.specs.Valid.{HeapFits, RunningFits, Valid}
 use Rattle.abs_kernel.proofs.Filed.{FilesFit}
 use Rattle.abs_kernel.proofs.Threaded.{ThreadsFit}
 use Rattle.abs_kernel.proofs.Evented.{EventsFit}
 use Rattle.abs_kernel.proofs.Chained.{ChainsFit}
-use Rattle.abs_kernel.specs.Changes.{Part, ContextAlone, AndMemory, AndRandom, AndFiles, AndInput, AndLine, AndPlace, AndThreads, AndEvents, AndChains, AndHeap, AndHeapMemory}
+use Rattle.abs_kernel.specs.Changes.{Part, ContextAlone, AndMemory, AndRandom, AndFiles, AndInput, AndLine, AndPlace, AndThreads, AndEvents, AndChains, AndHeap, AndHeapMemory, AndFrames}
 use Rattle.abs_kernel.specs.StayLaws.{EachEnd}
+use Rattle.abs_kernel.specs.WorkLaws.{GoesOn}
 
 -- a state with another running context, and interrupts on or off
 abbrev pub running_in : KernelState → Context → Bool → KernelState
@@ -24,6 +26,10 @@ at_rest c at = record { follows = refl; no_slot = refl; k0 = refl; k1 = refl; no
 
 pub answer_at_rest : (c : Context) (at value : ℕ) → IsAtRest (with_answer (taken c at) value)
 answer_at_rest c at value = record { follows = refl; no_slot = refl; k0 = refl; k1 = refl; none_pending = refl }
+
+-- a context at rest fits as a running one
+pub rest_fits : (c : Context) → IsAtRest c → RunningFits c
+rest_fits c r = record { follows = λ e. r.follows; branch = λ e. absurd (false≢true (let h : false ≡ true = sym r.no_slot ∙ e in h)) }
 
 pub if_ends : (P : KernelState → Type 0) (Q : Stop → Memory → Type 0) (b : Bool) (x y : Stay) → EachEnd P Q x → EachEnd P Q y → EachEnd P Q (if b then x else y)
 if_ends P Q true x y h g = h
@@ -51,6 +57,7 @@ Halts AndChains Q s = (stop : Stop) (m : Memory) → Q stop m
 Halts AndPlace Q s = (stop : Stop) (m : Memory) → Q stop m
 Halts AndHeap Q s = (stop : Stop) → Q stop s.memory
 Halts AndHeapMemory Q s = (stop : Stop) (m : Memory) → Q stop m
+Halts AndFrames Q s = (stop : Stop) → Q stop s.memory
 
 abbrev pub Returns : Part → (KernelState → Type 0) → KernelState → Type 0
 Returns ContextAlone P s = (c : Context) (on : Bool) → IsAtRest c → P (running_in s c on)
@@ -65,6 +72,8 @@ Returns AndEvents P s = (events : List Event) (c : Context) (on : Bool) → Even
 Returns AndChains P s = (m : Memory) (chains : List (List ℕ)) (c : Context) (on : Bool) → ChainsFit s.chains chains → IsAtRest c → P (running_in (record s { memory = m; chains = chains }) c on)
 Returns AndHeap P s = (h : Heap) (c : Context) (on : Bool) → (Valid s → HeapFits h) → IsAtRest c → P (running_in (record s { heap = h }) c on)
 Returns AndHeapMemory P s = (m : Memory) (h : Heap) (c : Context) (on : Bool) → (Valid s → HeapFits h) → IsAtRest c → P (running_in (record s { memory = m; heap = h }) c on)
+Returns AndFrames P s = (threads : List Thread) (current : ℕ) (next : Option ℕ) (events : List Event) (frames : List Frame) (c : Context) (on : Bool)
+    → (let t : KernelState = running_in (record s { threads = threads; current = current; next = next; events = events; frames = frames }) c on in (Valid s → GoesOn t) → P t)
 Returns AndPlace P s = (m : Memory) (place : ℕ) (c : Context) (on : Bool) → IsAtRest c → P (running_in (record s { memory = m; token = place }) c on)
 
 -- ---- a stay that changes the running context alone

@@ -1,5 +1,5 @@
 -- The ends of the stays, call by call, and what follows for all of them.
-use Rattle.std.proofs.Common.{◌≡◌, ℕ, zero, suc, ◌%◌, ◌^◌, Bool, true, false, inl, inr, refl, sym, ◌∙◌, Option, Some, None, List}
+use Rattle.std.proofs.Common.{◌≡◌, ℕ, zero, suc, ◌%◌, ◌^◌, Bool, true, false, inl, inr, refl, sym, Option, Some, None, List}
 use Rattle.std.specs.Prelude.{if◌then◌else◌, ◌-◌}
 use Rattle.std.proofs.lemmas.Bool.{false≢true}
 use Rattle.psx_base.specs.declared.stop.Stop.{Stop}
@@ -9,10 +9,10 @@ use Rattle.psx_base.specs.Memory.{Memory}
 use Rattle.psx_base.specs.Context.{Context, IsAtRest}
 use Rattle.psx_base.specs.Items.{Entrance, ByA, ByB, ByC, BySyscall, ByInterrupt, ByDone, ByBack, ByTrap}
 use Rattle.psx_base.specs.KernelState.{Thread, Event, Heap, KernelState}
-use Rattle.kern_layout.specs.Valid.{Valid, HeapFits, RunningFits}
+use Rattle.kern_layout.specs.Valid.{Valid, HeapFits}
 use Rattle.kern_layout.specs.declared.places.TheConstants.{EVENT_FREE, EVENT_DISABLED, EVENT_BUSY}
 use Rattle.abs_kernel.specs.declared.calls.CallId.{CallId}
-use Rattle.abs_kernel.specs.declared.calls.CallId.TheVariants.{A00, A02, A03, A04, A06, A08, A09, A0C, A0D, A0E, A0F, A10, A11, A13, A14, A15, A16, A17, A18, A19, A1A, A1B, A1C, A1D, A1E, A1F, A20, A21, A22, A23, A24, A25, A26, A27, A28, A29, A2A, A2B, A2C, A2D, A2E, A2F, A30, A33, A34, A37, A38, A39, A3A, A3B, A3C, A3D, A3E, A44, B08, B09, B0A, B0B, B0C, B0D, B0E, B0F, B10, B20, B32, B34, B35, B36, B38, B3A, B3B, B3C, B3D, B3E, B3F, B54, C02, C03}
+use Rattle.abs_kernel.specs.declared.calls.CallId.TheVariants.{A00, A02, A03, A04, A06, A08, A09, A0C, A0D, A0E, A0F, A10, A11, A13, A14, A15, A16, A17, A18, A19, A1A, A1B, A1C, A1D, A1E, A1F, A20, A21, A22, A23, A24, A25, A26, A27, A28, A29, A2A, A2B, A2C, A2D, A2E, A2F, A30, A33, A34, A37, A38, A39, A3A, A3B, A3C, A3D, A3E, A3F, A44, B02, B03, B04, B05, B06, B07, B08, B09, B0A, B0B, B0C, B0D, B0E, B0F, B10, B17, B20, B32, B34, B35, B36, B38, B3A, B3B, B3C, B3D, B3E, B3F, B54, C02, C03}
 use Rattle.abs_kernel.specs.CallTable.{served_call}
 use Rattle.abs_kernel.specs.Cause.{entrance_of}
 use Rattle.abs_kernel.specs.Answered.{registers_of}
@@ -30,31 +30,35 @@ use Rattle.abs_kernel.proofs.Threaded.{ThreadsFit, threads_same, valid_threaded}
 use Rattle.abs_kernel.proofs.Evented.{EventsFit, events_same, valid_evented}
 use Rattle.abs_kernel.proofs.Chained.{ChainsFit, chains_same, valid_chained}
 use Rattle.abs_kernel.proofs.Heaped.{valid_heaped}
+use Rattle.psx_base.specs.Entrances.{number}
+use Rattle.abs_kernel.proofs.EndsTasks.{back_ends, from_exception_ends, delivery_ends, interrupt_ends}
 use Rattle.abs_kernel.proofs.EndsThreads.{close_thread_ends, open_thread_ends, change_thread_ends}
 use Rattle.abs_kernel.proofs.EndsEvents.{status_ends, open_event_ends, test_event_ends, wait_event_ends, undeliver_event_ends}
+use Rattle.abs_kernel.proofs.EndsCounters.{init_timer_ends, get_timer_ends, enable_timer_irq_ends, disable_timer_irq_ends, restart_timer_ends}
 use Rattle.abs_kernel.proofs.EndsChains.{sys_enq_int_rp_ends, sys_deq_int_rp_ends}
 use Rattle.abs_kernel.proofs.Filed.{FilesFit, files_same, valid_filed}
-use Rattle.abs_kernel.specs.Changes.{Part, ContextAlone, AndMemory, AndRandom, AndFiles, AndInput, AndLine, changes, changes_of, changes_by, changed, Changed, keeps_memory, takes_up_another, AndPlace, AndThreads, AndEvents, AndChains, AndHeap, AndHeapMemory}
+use Rattle.abs_kernel.specs.Changes.{Part, ContextAlone, AndMemory, AndRandom, AndFiles, AndInput, AndLine, changes, changes_of, changes_by, changed, Changed, keeps_memory, takes_up_another, AndPlace, AndThreads, AndEvents, AndChains, AndHeap, AndHeapMemory, AndFrames, changes_by_syscall}
 use Rattle.abs_kernel.specs.StayLaws.{EachEnd, MemoryKept, RestKept, ReturnsAtRest, ValidKept}
 use Rattle.abs_kernel.specs.HeapLaws.{changes_heap, OthersKeepHeap}
-use Rattle.abs_kernel.proofs.Ending.{running_in, LineFits, Halts, Returns, on_at, answer_at, answered_ends, pointer_ends, pointers_end}
+use Rattle.abs_kernel.proofs.Ending.{running_in, LineFits, Halts, Returns, on_at, answer_at, at_rest, answer_at_rest, rest_fits, answered_ends, pointer_ends, pointers_end}
 use Rattle.abs_kernel.proofs.EndsHeap.{malloc_ends, free_ends, calloc_ends, realloc_ends, init_heap_ends}
 use Rattle.abs_kernel.proofs.EndsJumps.{longjmp_ends, words_written_ends}
 use Rattle.abs_kernel.specs.Jumps.{jump_words}
 use Rattle.abs_kernel.proofs.EndsMemory.{found_ends, compared_bytes_ends, fills_end, copies_end, memmove_ends}
 use Rattle.abs_kernel.proofs.EndsText.{counted_ends, compared_ends, first_ends, last_ends, found_text_ends, skipped_ends, strcpy_ends, strcat_ends, strncat_ends, strncpy_ends, strtok_ends}
 use Rattle.abs_kernel.proofs.EndsNumbers.{strtol_ends, atoi_ends}
+use Rattle.abs_kernel.proofs.EndsPrintf.{format_ends}
 use Rattle.abs_kernel.proofs.EndsFiles.{written_ends, getchar_ends, open_ends, close_ends, write_ends, getc_ends, putc_ends, read_ends, gets_ends}
 
 -- ---- a system call
 
-module _ (P : KernelState → Type 0) (Q : Stop → Memory → Type 0) (s : KernelState)
-    (halts : (stop : Stop) → Q stop s.memory) (returns : (c : Context) (on : Bool) → IsAtRest c → P (running_in s c on)) where
-  pub syscall_ends : (n : ℕ) → EachEnd P Q (syscall n s)
-  syscall_ends zero = on_at P Q s halts returns (behind_syscall s.running.context) s.running.interrupts
-  syscall_ends (suc zero) = answer_at P Q s halts returns (behind_syscall s.running.context) (if s.running.interrupts then 1 else 0) false
-  syscall_ends (suc (suc zero)) = on_at P Q s halts returns (behind_syscall s.running.context) true
-  syscall_ends (suc (suc (suc n))) = halts _
+module _ (P : KernelState → Type 0) (Q : Stop → Memory → Type 0) (s : KernelState) where
+  pub syscall_ends : (n : ℕ) → Halts (changes_by_syscall n) Q s → Returns (changes_by_syscall n) P s → EachEnd P Q (syscall n s)
+  syscall_ends zero halts returns = on_at P Q s halts returns (behind_syscall s.running.context) s.running.interrupts
+  syscall_ends (suc zero) halts returns = answer_at P Q s halts returns (behind_syscall s.running.context) (if s.running.interrupts then 1 else 0) false
+  syscall_ends (suc (suc zero)) halts returns = on_at P Q s halts returns (behind_syscall s.running.context) true
+  syscall_ends (suc (suc (suc zero))) halts returns = halts _
+  syscall_ends (suc (suc (suc (suc n)))) halts returns = let c = s.running.context in delivery_ends P Q s halts returns _ _ _ _ (at_rest c (behind_syscall c))
 
 -- ---- all stays
 
@@ -119,7 +123,14 @@ module _ (P : KernelState → Type 0) (Q : Stop → Memory → Type 0) (s : Kern
   call_ends A3C halts returns = answered_ends P Q s halts returns ((registers_of s).r4 % 2 ^ 8)
   call_ends A3D halts returns = gets_ends P Q s halts returns
   call_ends A3E halts returns = pointer_ends P Q s halts returns _ (written_ends P Q s halts returns longest (registers_of s).r4)
+  call_ends A3F halts returns = pointer_ends P Q s halts returns _ (format_ends P Q s halts returns longest (registers_of s).r4 0 0 None)
   call_ends A44 halts returns = answered_ends P Q s halts returns 0
+  call_ends B02 halts returns = init_timer_ends P Q s halts returns
+  call_ends B03 halts returns = get_timer_ends P Q s halts returns
+  call_ends B04 halts returns = enable_timer_irq_ends P Q s halts returns
+  call_ends B05 halts returns = disable_timer_irq_ends P Q s halts returns
+  call_ends B06 halts returns = restart_timer_ends P Q s halts returns
+  call_ends B07 halts returns = let r = registers_of s in delivery_ends P Q s halts returns _ _ _ _ (answer_at_rest s.running.context r.r31 0)
   call_ends B08 halts returns = open_event_ends P Q s halts returns
   call_ends B09 halts returns = status_ends P Q s halts returns EVENT_FREE (inl refl)
   call_ends B0A halts returns = wait_event_ends P Q s halts returns
@@ -129,6 +140,7 @@ module _ (P : KernelState → Type 0) (Q : Stop → Memory → Type 0) (s : Kern
   call_ends B0E halts returns = open_thread_ends P Q s halts returns
   call_ends B0F halts returns = close_thread_ends P Q s halts returns
   call_ends B10 halts returns = change_thread_ends P Q s halts returns
+  call_ends B17 halts returns = from_exception_ends P Q s halts returns
   call_ends B20 halts returns = undeliver_event_ends P Q s halts returns
   call_ends B32 halts returns = open_ends P Q s halts returns
   call_ends B34 halts returns = read_ends P Q s halts returns
@@ -149,14 +161,14 @@ module _ (P : KernelState → Type 0) (Q : Stop → Memory → Type 0) (s : Kern
   row_ends table None halts returns = halts _
   row_ends table (Some id) halts returns = call_ends id halts returns
 
-  ends : (e : Entrance) (code : ℕ) → Halts (changes_by e (registers_of s).r9) Q s → Returns (changes_by e (registers_of s).r9) P s → EachEnd P Q (by_entrance e code s)
+  ends : (e : Entrance) (code : ℕ) → Halts (changes_by e (number e code (registers_of s))) Q s → Returns (changes_by e (number e code (registers_of s))) P s → EachEnd P Q (by_entrance e code s)
   ends ByA code halts returns = row_ends A (served_call A (registers_of s).r9) halts returns
   ends ByB code halts returns = row_ends B (served_call B (registers_of s).r9) halts returns
   ends ByC code halts returns = row_ends C (served_call C (registers_of s).r9) halts returns
-  ends BySyscall code halts returns = syscall_ends P Q s halts returns (registers_of s).r4
-  ends ByInterrupt code halts returns = halts _
+  ends BySyscall code halts returns = syscall_ends P Q s (registers_of s).r4 halts returns
+  ends ByInterrupt code halts returns = interrupt_ends P Q s halts returns
   ends ByDone code halts returns = halts _
-  ends ByBack code halts returns = halts _
+  ends ByBack code halts returns = back_ends P Q s halts returns
   ends ByTrap code halts returns = halts _
 
 pub stay_ends : (P : KernelState → Type 0) (Q : Stop → Memory → Type 0) (s : KernelState) (code : ℕ)
@@ -182,27 +194,29 @@ halts_any AndEvents s = λ stop. tt
 halts_any AndChains s = λ stop m. tt
 halts_any AndHeap s = λ stop. tt
 halts_any AndHeapMemory s = λ stop m. tt
+halts_any AndFrames s = λ stop. tt
 
--- what holds of a return whatever is changed
+-- that a return is valid whatever is changed but the frames
 abbrev Whatever : (KernelState → Type 0) → KernelState → Type 0
 Whatever P s =
     (m : Memory) (x place : ℕ) (files : List (Option ℕ)) (errno : ℕ) (line : List ℕ) (threads : List Thread) (current : ℕ) (next : Option ℕ) (events : List Event) (chains : List (List ℕ)) (heap : Heap) (c : Context) (on : Bool)
     → FilesFit s.files files → LineFits s line → (Valid s → ThreadsFit s threads current next) → EventsFit s.events events → ChainsFit s.chains chains → (Valid s → HeapFits heap) → (Valid s → IsAtRest c)
     → P (running_in (record s { memory = m; random = x; token = place; files = files; errno = errno; line = line; threads = threads; current = current; next = next; events = events; chains = chains; heap = heap }) c on)
 
-returns_any : (part : Part) (P : KernelState → Type 0) (s : KernelState) → Whatever P s → Returns part P s
-returns_any ContextAlone P s h = λ c on r. h s.memory s.random s.token s.files s.errno s.line s.threads s.current s.next s.events s.chains s.heap c on (files_same s.files) (λ q. q) (threads_same s) (events_same s.events) (chains_same s.chains) (λ v. v.heap) (λ v. r)
-returns_any AndMemory P s h = λ m c on r. h m s.random s.token s.files s.errno s.line s.threads s.current s.next s.events s.chains s.heap c on (files_same s.files) (λ q. q) (threads_same s) (events_same s.events) (chains_same s.chains) (λ v. v.heap) (λ v. r)
-returns_any AndRandom P s h = λ x c on r. h s.memory x s.token s.files s.errno s.line s.threads s.current s.next s.events s.chains s.heap c on (files_same s.files) (λ q. q) (threads_same s) (events_same s.events) (chains_same s.chains) (λ v. v.heap) (λ v. r)
-returns_any AndPlace P s h = λ m place c on r. h m s.random place s.files s.errno s.line s.threads s.current s.next s.events s.chains s.heap c on (files_same s.files) (λ q. q) (threads_same s) (events_same s.events) (chains_same s.chains) (λ v. v.heap) (λ v. r)
-returns_any AndFiles P s h = λ files errno c on fit r. h s.memory s.random s.token files errno s.line s.threads s.current s.next s.events s.chains s.heap c on fit (λ q. q) (threads_same s) (events_same s.events) (chains_same s.chains) (λ v. v.heap) (λ v. r)
-returns_any AndInput P s h = λ m errno c on r. h m s.random s.token s.files errno s.line s.threads s.current s.next s.events s.chains s.heap c on (files_same s.files) (λ q. q) (threads_same s) (events_same s.events) (chains_same s.chains) (λ v. v.heap) (λ v. r)
-returns_any AndLine P s h = λ m line fits c on r. h m s.random s.token s.files s.errno line s.threads s.current s.next s.events s.chains s.heap c on (files_same s.files) fits (threads_same s) (events_same s.events) (chains_same s.chains) (λ v. v.heap) (λ v. r)
-returns_any AndThreads P s h = λ threads current next c on fit r. h s.memory s.random s.token s.files s.errno s.line threads current next s.events s.chains s.heap c on (files_same s.files) (λ q. q) fit (events_same s.events) (chains_same s.chains) (λ v. v.heap) r
-returns_any AndEvents P s h = λ events c on fit r. h s.memory s.random s.token s.files s.errno s.line s.threads s.current s.next events s.chains s.heap c on (files_same s.files) (λ q. q) (threads_same s) fit (chains_same s.chains) (λ v. v.heap) (λ v. r)
-returns_any AndChains P s h = λ m chains c on fit r. h m s.random s.token s.files s.errno s.line s.threads s.current s.next s.events chains s.heap c on (files_same s.files) (λ q. q) (threads_same s) (events_same s.events) fit (λ v. v.heap) (λ v. r)
-returns_any AndHeap P s h = λ heap c on fit r. h s.memory s.random s.token s.files s.errno s.line s.threads s.current s.next s.events s.chains heap c on (files_same s.files) (λ q. q) (threads_same s) (events_same s.events) (chains_same s.chains) fit (λ v. r)
-returns_any AndHeapMemory P s h = λ m heap c on fit r. h m s.random s.token s.files s.errno s.line s.threads s.current s.next s.events s.chains heap c on (files_same s.files) (λ q. q) (threads_same s) (events_same s.events) (chains_same s.chains) fit (λ v. r)
+returns_valid : (part : Part) (s : KernelState) → Valid s → Whatever Valid s → Returns part Valid s
+returns_valid ContextAlone s valid h = λ c on r. h s.memory s.random s.token s.files s.errno s.line s.threads s.current s.next s.events s.chains s.heap c on (files_same s.files) (λ q. q) (threads_same s) (events_same s.events) (chains_same s.chains) (λ v. v.heap) (λ v. r)
+returns_valid AndMemory s valid h = λ m c on r. h m s.random s.token s.files s.errno s.line s.threads s.current s.next s.events s.chains s.heap c on (files_same s.files) (λ q. q) (threads_same s) (events_same s.events) (chains_same s.chains) (λ v. v.heap) (λ v. r)
+returns_valid AndRandom s valid h = λ x c on r. h s.memory x s.token s.files s.errno s.line s.threads s.current s.next s.events s.chains s.heap c on (files_same s.files) (λ q. q) (threads_same s) (events_same s.events) (chains_same s.chains) (λ v. v.heap) (λ v. r)
+returns_valid AndPlace s valid h = λ m place c on r. h m s.random place s.files s.errno s.line s.threads s.current s.next s.events s.chains s.heap c on (files_same s.files) (λ q. q) (threads_same s) (events_same s.events) (chains_same s.chains) (λ v. v.heap) (λ v. r)
+returns_valid AndFiles s valid h = λ files errno c on fit r. h s.memory s.random s.token files errno s.line s.threads s.current s.next s.events s.chains s.heap c on fit (λ q. q) (threads_same s) (events_same s.events) (chains_same s.chains) (λ v. v.heap) (λ v. r)
+returns_valid AndInput s valid h = λ m errno c on r. h m s.random s.token s.files errno s.line s.threads s.current s.next s.events s.chains s.heap c on (files_same s.files) (λ q. q) (threads_same s) (events_same s.events) (chains_same s.chains) (λ v. v.heap) (λ v. r)
+returns_valid AndLine s valid h = λ m line fits c on r. h m s.random s.token s.files s.errno line s.threads s.current s.next s.events s.chains s.heap c on (files_same s.files) fits (threads_same s) (events_same s.events) (chains_same s.chains) (λ v. v.heap) (λ v. r)
+returns_valid AndThreads s valid h = λ threads current next c on fit r. h s.memory s.random s.token s.files s.errno s.line threads current next s.events s.chains s.heap c on (files_same s.files) (λ q. q) fit (events_same s.events) (chains_same s.chains) (λ v. v.heap) r
+returns_valid AndEvents s valid h = λ events c on fit r. h s.memory s.random s.token s.files s.errno s.line s.threads s.current s.next events s.chains s.heap c on (files_same s.files) (λ q. q) (threads_same s) fit (chains_same s.chains) (λ v. v.heap) (λ v. r)
+returns_valid AndChains s valid h = λ m chains c on fit r. h m s.random s.token s.files s.errno s.line s.threads s.current s.next s.events chains s.heap c on (files_same s.files) (λ q. q) (threads_same s) (events_same s.events) fit (λ v. v.heap) (λ v. r)
+returns_valid AndHeap s valid h = λ heap c on fit r. h s.memory s.random s.token s.files s.errno s.line s.threads s.current s.next s.events s.chains heap c on (files_same s.files) (λ q. q) (threads_same s) (events_same s.events) (chains_same s.chains) fit (λ v. r)
+returns_valid AndHeapMemory s valid h = λ m heap c on fit r. h m s.random s.token s.files s.errno s.line s.threads s.current s.next s.events s.chains heap c on (files_same s.files) (λ q. q) (threads_same s) (events_same s.events) (chains_same s.chains) fit (λ v. r)
+returns_valid AndFrames s valid h = λ threads current next events frames c on r. (r valid).0
 
 pub returns_changed : (part : Part) (s : KernelState) → Returns part (Changed part s) (settled_state s)
 returns_changed ContextAlone s = λ c on r. refl
@@ -217,6 +231,7 @@ returns_changed AndChains s = λ m chains c on fit r. refl
 returns_changed AndHeap s = λ heap c on fit r. refl
 returns_changed AndHeapMemory s = λ m heap c on fit r. refl
 returns_changed AndPlace s = λ m place c on r. refl
+returns_changed AndFrames s = λ threads current next events frames c on r. refl
 
 pub rest_kept : RestKept
 rest_kept s code = stay_ends (Changed (changed s code) s) Any s code (halts_any (changed s code) (settled_state s)) (returns_changed (changed s code) s)
@@ -241,6 +256,7 @@ halts_same AndChains s h = absurd (false≢true h)
 halts_same AndHeap s h = λ stop. refl
 halts_same AndHeapMemory s h = absurd (false≢true h)
 halts_same AndPlace s h = absurd (false≢true h)
+halts_same AndFrames s h = λ stop. refl
 
 returns_same : (part : Part) (s : KernelState) → keeps_memory part ≡ true → Returns part (SameMemory s) (settled_state s)
 returns_same ContextAlone s h = λ c on r. refl
@@ -255,6 +271,7 @@ returns_same AndChains s h = absurd (false≢true h)
 returns_same AndHeap s h = λ heap c on fit r. refl
 returns_same AndHeapMemory s h = absurd (false≢true h)
 returns_same AndPlace s h = absurd (false≢true h)
+returns_same AndFrames s h = λ threads current next events frames c on r. refl
 
 pub memory_kept : MemoryKept
 memory_kept s code h = stay_ends (SameMemory s) (SameAtStop s) s code (halts_same (changed s code) s h) (returns_same (changed s code) s h)
@@ -276,6 +293,7 @@ returns_heap AndEvents s h = λ events c on fit r. refl
 returns_heap AndChains s h = λ m chains c on fit r. refl
 returns_heap AndHeap s h = absurd (false≢true (sym h))
 returns_heap AndHeapMemory s h = absurd (false≢true (sym h))
+returns_heap AndFrames s h = λ threads current next events frames c on r. refl
 
 pub others_keep_heap : OthersKeepHeap
 others_keep_heap s code h = stay_ends (SameHeap s) Any s code (halts_any (changed s code) (settled_state s)) (returns_heap (changed s code) s h)
@@ -300,20 +318,17 @@ returns_rested AndEvents s h = λ events c on fit r. r
 returns_rested AndChains s h = λ m chains c on fit r. r
 returns_rested AndHeap s h = λ heap c on fit r. r
 returns_rested AndHeapMemory s h = λ m heap c on fit r. r
+returns_rested AndFrames s h = λ threads current next events frames c on r. (r (h refl)).1
 
 pub returns_at_rest : ReturnsAtRest
 returns_at_rest s code h = stay_ends RestsInIt Any s code (halts_any (changed s code) (settled_state s)) (returns_rested (changed s code) (settled_state s) (λ e. valid_settled s (h e)))
-
--- a context at rest fits as a running one
-pub rest_fits : (c : Context) → IsAtRest c → RunningFits c
-rest_fits c r = record { follows = λ e. r.follows; branch = λ e. absurd (false≢true (let h : false ≡ true = sym r.no_slot ∙ e in h)) }
 
 pub valid_kept : ValidKept
 valid_kept s code valid =
     let u : KernelState = settled_state s in
     let v : Valid u = valid_settled s valid in
     stay_ends Valid Any s code (halts_any (changed s code) u)
-    (returns_any (changed s code) Valid u (λ m x place files errno line threads current next events chains heap c on fit fits threads_fit events_fit chains_fit heap_fits r.
+    (returns_valid (changed s code) u v (λ m x place files errno line threads current next events chains heap c on fit fits threads_fit events_fit chains_fit heap_fits r.
     let t : KernelState = record u { threads = threads; current = current; next = next } in
     let w : KernelState = record t { events = events; chains = chains } in
     let filed : KernelState = record w { files = files; errno = errno } in

@@ -1,24 +1,23 @@
 -- The bytes that calloc and realloc write.
-use Rattle.std.proofs.Common.{◌≡◌, ◌≢◌, ℕ, zero, suc, ◌+◌, ◌-◌, ◌*◌, ◌/◌, ◌%◌, ◌^◌, ◌<◌, ◌≤◌, Bool, true, false, ◌⊎◌, inl, inr, ⊎_elim, refl, sym, ap, ◌∙◌, subst, arith}
+use Rattle.std.proofs.Common.{◌≡◌, ◌≢◌, ℕ, zero, suc, ◌+◌, ◌-◌, ◌*◌, ◌%◌, ◌^◌, ◌<◌, ◌≤◌, Bool, true, false, ◌⊎◌, inl, inr, ⊎_elim, refl, sym, ap, ◌∙◌, subst, arith}
 use Rattle.std.specs.Prelude.{min, Option, Some, None, unwrap_or, nat_eq, nat_le, nat_lt, ◌&&◌, ◌||◌, if◌then◌else◌}
-use Rattle.std.proofs.lemmas.Bool.{false≢true, eqb-true, ltb-true, ltb-false, cases_eq}
-use Rattle.psx_base.specs.Addresses.{top, low, is_mirrored, user_main, scratchpad, place, user}
+use Rattle.std.proofs.lemmas.Bool.{eqb-true, ltb-true, ltb-false, cases_eq}
+use Rattle.psx_base.specs.Addresses.{top, low, user_main, scratchpad, place, user}
 use Rattle.psx_base.specs.Memory.{Memory, byte, put_byte}
 use Rattle.psx_base.specs.KernelState.{Heap, KernelState}
 use Rattle.psx_ram.proofs.Laws.{byte-put_byte_same, byte-put_byte_apart}
-use Rattle.kern_layout.specs.Valid.{HeapFits, Valid}
+use Rattle.kern_layout.specs.Valid.{HeapFits}
 use Rattle.abs_kernel.specs.Stay.{Stay}
 use Rattle.abs_kernel.specs.Answered.{registers_of, answered}
 use Rattle.abs_kernel.specs.UserBytes.{following}
 use Rattle.abs_kernel.specs.Memset.{fill}
 use Rattle.abs_kernel.specs.Memcpy.{copy_bytes}
 use Rattle.abs_kernel.specs.Heap.{rounded, Given, allocates, used_size, with_freed_block}
-use Rattle.abs_kernel.specs.Malloc.{gives}
-use Rattle.abs_kernel.specs.Calloc.{clears, calloc}
-use Rattle.abs_kernel.specs.Realloc.{moves, resizes, realloc}
+use Rattle.abs_kernel.specs.Calloc.{clears}
+use Rattle.abs_kernel.specs.Realloc.{moves, resizes}
 use Rattle.abs_kernel.specs.StayLaws.{EachReturn}
 use Rattle.abs_kernel.specs.HeapLaws.{IsUsed, Wrote, CallocClears, ReallocCopies}
-use Rattle.abs_kernel.proofs.HeapKept.{total, sized, allocates_fits, allocates_kept, allocates_by}
+use Rattle.abs_kernel.proofs.HeapKept.{total, sized, allocates_kept, allocates_by}
 use Rattle.abs_kernel.proofs.HeapUsed.{no_size, used_inside, used_apart, allots_keeps}
 use Rattle.abs_kernel.proofs.HeapGiven.{block_used, block_unused, used_above}
 use Rattle.abs_kernel.proofs.HeapStays.{UserBytes, follows, next_bytes, heap_user, given_user}

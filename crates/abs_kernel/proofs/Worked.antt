@@ -21,12 +21,11 @@ use Rattle.abs_kernel.specs.Scan.{is_marked, is_called, made_ready, with_ready, 
 use Rattle.abs_kernel.specs.TakingUp.{taken_up, resumed_by, resumed}
 use Rattle.abs_kernel.specs.Tasks.{first_of, second_of, reads_function, class_of_line, SPEC_OF_LINES, work}
 use Rattle.abs_kernel.specs.Returning.{innermost, without_innermost, popped, pops_by}
-use Rattle.abs_kernel.specs.WorkLaws.{IsNext, GoesOn, WorkKeepsValid, BackKeepsValid, DeliveryKeepsValid}
+use Rattle.abs_kernel.specs.WorkLaws.{IsNext, Working, GoesOn, WorkKeepsValid, BackKeepsValid, DeliveryKeepsValid}
 use Rattle.abs_kernel.proofs.Threaded.{rests_set, valid_threaded}
 use Rattle.abs_kernel.proofs.Evented.{events_set, valid_evented}
 use Rattle.abs_kernel.proofs.Moved.{valid_moved}
-use Rattle.abs_kernel.proofs.Ends.{rest_fits}
-use Rattle.abs_kernel.proofs.Ending.{at_rest, if_ends, if_ends_by}
+use Rattle.abs_kernel.proofs.Ending.{rest_fits, at_rest, if_ends, if_ends_by}
 use Rattle.abs_kernel.proofs.TasksLeft.{no_elements, left_fits, left, with_second, with_scan}
 
 -- ---- states
@@ -36,7 +35,7 @@ next_fits : (s : KernelState) (o : Option ℕ) → 0 < length s.frames → IsNex
 next_fits s None some h = tt
 next_fits s (Some n) some h = (h.0, h.1, h.2, some)
 
-next_of : (s : KernelState) (o : Option ℕ) → NextFits s o → IsNext s o
+pub next_of : (s : KernelState) (o : Option ℕ) → NextFits s o → IsNext s o
 next_of s None h = tt
 next_of s (Some n) h = (h.0, h.1, h.2)
 
@@ -48,7 +47,7 @@ valid_next s o fits v = valid_threaded (record s { next = None }) s.threads s.cu
     fits' None h = tt
     fits' (Some n) h = h
 
-valid_no_next : (s : KernelState) → Valid s → Valid (record s { next = None })
+pub valid_no_next : (s : KernelState) → Valid s → Valid (record s { next = None })
 valid_no_next s v = valid_threaded s s.threads s.current None v (record { count = refl; rest = v.threads; running = v.current; next = tt })
 
 -- other frames
@@ -227,6 +226,10 @@ popped_base s f v e =
     same : (o : Option ℕ) → IsNext s o → IsNext (popped s) o
     same None h = tt
     same (Some n) h = h
+
+-- with the frame's context and tasks it is one in which tasks are done
+pub popped_works : (s : KernelState) (f : Frame) → Valid s → innermost s.frames ≡ Some f → Working (popped s) f.context f.tasks
+popped_works s f v e = let p = popped_base s f v e in record { valid = p.1.valid; next = p.1.next; context = p.0.rests; tasks = p.0.tasks }
 
 pub back_keeps_valid : BackKeepsValid
 back_keeps_valid s v = (

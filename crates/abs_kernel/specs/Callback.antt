@@ -15,7 +15,7 @@ stack_below sp = let at = (sp + (2 ^ 32 - 32)) % 2 ^ 32 in at - at % 8
 abbrev pub RETURN : ℕ
 RETURN = 0xE0
 
--- The function begins with its argument in r4, and returns to that gate. It has gp of the context, interrupts are off, and all other registers are 0.
+-- The function begins with its argument in r4, its address in k0, that gate in r31, gp of the context and the stack below the context's. Interrupts are off, and all else is 0, with HI and LO.
 abbrev pub callback : Context → (function argument : ℕ) → ThreadContext
 callback c function argument = record {
   context = record {

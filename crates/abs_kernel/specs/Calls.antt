@@ -4,13 +4,14 @@ use Rattle.psx_base.specs.declared.stop.Table.{Table}
 use Rattle.psx_base.specs.declared.stop.Stop.TheVariants.{Unserved}
 use Rattle.psx_base.specs.KernelState.{KernelState}
 use Rattle.abs_kernel.specs.declared.calls.CallId.{CallId}
-use Rattle.abs_kernel.specs.declared.calls.CallId.TheVariants.{A00, A02, A03, A04, A06, A08, A09, A0C, A0D, A0E, A0F, A10, A11, A13, A14, A15, A16, A17, A18, A19, A1A, A1B, A1C, A1D, A1E, A1F, A20, A21, A22, A23, A24, A25, A26, A27, A28, A29, A2A, A2B, A2C, A2D, A2E, A2F, A30, A33, A34, A37, A38, A39, A3A, A3B, A3C, A3D, A3E, A44, B08, B09, B0A, B0B, B0C, B0D, B0E, B0F, B10, B20, B32, B34, B35, B36, B38, B3A, B3B, B3C, B3D, B3E, B3F, B54, C02, C03}
+use Rattle.abs_kernel.specs.declared.calls.CallId.TheVariants.{A00, A02, A03, A04, A06, A08, A09, A0C, A0D, A0E, A0F, A10, A11, A13, A14, A15, A16, A17, A18, A19, A1A, A1B, A1C, A1D, A1E, A1F, A20, A21, A22, A23, A24, A25, A26, A27, A28, A29, A2A, A2B, A2C, A2D, A2E, A2F, A30, A33, A34, A37, A38, A39, A3A, A3B, A3C, A3D, A3E, A3F, A44, B02, B03, B04, B05, B06, B07, B08, B09, B0A, B0B, B0C, B0D, B0E, B0F, B10, B17, B20, B32, B34, B35, B36, B38, B3A, B3B, B3C, B3D, B3E, B3F, B54, C02, C03}
 use Rattle.abs_kernel.specs.CallTable.{served_call}
 use Rattle.abs_kernel.specs.Stay.{Stay, Halt}
 use Rattle.abs_kernel.specs.Answered.{registers_of}
 use Rattle.abs_kernel.specs.Exits.{exits}
 use Rattle.abs_kernel.specs.Putchar.{putchar}
 use Rattle.abs_kernel.specs.Puts.{puts}
+use Rattle.abs_kernel.specs.Printf.{printf}
 use Rattle.abs_kernel.specs.Getchar.{getchar}
 use Rattle.abs_kernel.specs.Gets.{gets}
 use Rattle.abs_kernel.specs.Getc.{getc}
@@ -49,6 +50,13 @@ use Rattle.abs_kernel.specs.FlushCache.{flush_cache}
 use Rattle.abs_kernel.specs.OpenThread.{open_thread}
 use Rattle.abs_kernel.specs.CloseThread.{close_thread}
 use Rattle.abs_kernel.specs.ChangeThread.{change_thread}
+use Rattle.abs_kernel.specs.InitTimer.{init_timer}
+use Rattle.abs_kernel.specs.GetTimer.{get_timer}
+use Rattle.abs_kernel.specs.EnableTimerIrq.{enable_timer_irq}
+use Rattle.abs_kernel.specs.DisableTimerIrq.{disable_timer_irq}
+use Rattle.abs_kernel.specs.RestartTimer.{restart_timer}
+use Rattle.abs_kernel.specs.DeliverEvent.{deliver_event}
+use Rattle.abs_kernel.specs.Returning.{return_from_exception}
 use Rattle.abs_kernel.specs.OpenEvent.{open_event}
 use Rattle.abs_kernel.specs.CloseEvent.{close_event}
 use Rattle.abs_kernel.specs.WaitEvent.{wait_event}
@@ -119,7 +127,14 @@ call A3B s = getchar s
 call A3C s = putchar s
 call A3D s = gets s
 call A3E s = puts s
+call A3F s = printf s
 call A44 s = flush_cache s
+call B02 s = init_timer s
+call B03 s = get_timer s
+call B04 s = enable_timer_irq s
+call B05 s = disable_timer_irq s
+call B06 s = restart_timer s
+call B07 s = deliver_event s
 call B08 s = open_event s
 call B09 s = close_event s
 call B0A s = wait_event s
@@ -129,6 +144,7 @@ call B0D s = disable_event s
 call B0E s = open_thread s
 call B0F s = close_thread s
 call B10 s = change_thread s
+call B17 s = return_from_exception s
 call B20 s = undeliver_event s
 call B32 s = open_file s
 call B34 s = read s

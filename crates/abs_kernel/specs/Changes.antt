@@ -1,16 +1,15 @@
 -- What a stay may change of the kernel's state, by its call.
-use Rattle.std.specs.Prelude.{◌≡◌, ℕ, Bool, true, false, Option, Some, None}
+use Rattle.std.specs.Prelude.{◌≡◌, ℕ, suc, Bool, true, false, Option, Some, None}
 use Rattle.psx_base.specs.declared.stop.Table.TheVariants.{A, B, C}
-use Rattle.psx_base.specs.Context.{settle}
 use Rattle.psx_base.specs.Items.{Entrance, ByA, ByB, ByC, BySyscall, ByInterrupt, ByDone, ByBack, ByTrap}
 use Rattle.psx_base.specs.KernelState.{KernelState}
 use Rattle.abs_kernel.specs.declared.calls.CallId.{CallId}
-use Rattle.abs_kernel.specs.declared.calls.CallId.TheVariants.{A00, A02, A03, A04, A08, A09, A0C, A0D, A13, A15, A16, A19, A1A, A23, A27, A28, A2A, A2B, A2C, A2F, A30, A33, A34, A37, A38, A39, A3D, B08, B09, B0A, B0B, B0C, B0D, B0E, B0F, B10, B20, B32, B34, B35, B36, B3A, B3B, B3E, C02, C03}
+use Rattle.abs_kernel.specs.declared.calls.CallId.TheVariants.{A00, A02, A03, A04, A08, A09, A0C, A0D, A13, A15, A16, A19, A1A, A23, A27, A28, A2A, A2B, A2C, A2F, A30, A33, A34, A37, A38, A39, A3D, B07, B08, B09, B0A, B0B, B0C, B0D, B0E, B0F, B10, B17, B20, B32, B34, B35, B36, B3A, B3B, B3E, C02, C03}
 use Rattle.abs_kernel.specs.CallTable.{served_call}
-use Rattle.abs_kernel.specs.Cause.{entrance_of}
+use Rattle.abs_kernel.specs.Cause.{entry_of}
 
 -- The running context alone; or beside it the user's memory, the random state, the memory and strtok's place, the files and the last error, the memory and the last error, the memory and the line,
--- the threads, the events, the memory and the chains, the heap, the memory and the heap.
+-- the threads, the events, the memory and the chains, the heap, the memory and the heap, the threads and the events and the frames.
 pub data Part : Type 0 where
   ContextAlone : Part
   AndMemory : Part
@@ -24,6 +23,7 @@ pub data Part : Type 0 where
   AndChains : Part
   AndHeap : Part
   AndHeapMemory : Part
+  AndFrames : Part
 
 -- a call that isn't named changes the running context alone
 abbrev pub changes : CallId → Part
@@ -54,6 +54,7 @@ changes A37 = AndHeapMemory
 changes A38 = AndHeapMemory
 changes A39 = AndHeap
 changes A3D = AndLine
+changes B07 = AndFrames
 changes B08 = AndEvents
 changes B09 = AndEvents
 changes B0A = AndEvents
@@ -63,6 +64,7 @@ changes B0D = AndEvents
 changes B0E = AndThreads
 changes B0F = AndThreads
 changes B10 = AndThreads
+changes B17 = AndFrames
 changes B20 = AndEvents
 changes B32 = AndFiles
 changes B34 = AndInput
@@ -80,20 +82,25 @@ abbrev pub changes_of : Option CallId → Part
 changes_of None = ContextAlone
 changes_of (Some id) = changes id
 
--- by its entrance and r9
+-- a SYSCALL above 3 delivers
+abbrev pub changes_by_syscall : (number : ℕ) → Part
+changes_by_syscall (suc (suc (suc (suc n)))) = AndFrames
+changes_by_syscall _ = ContextAlone
+
+-- by its entrance and its number
 abbrev pub changes_by : Entrance → (number : ℕ) → Part
 changes_by ByA number = changes_of (served_call A number)
 changes_by ByB number = changes_of (served_call B number)
 changes_by ByC number = changes_of (served_call C number)
-changes_by BySyscall number = ContextAlone
-changes_by ByInterrupt number = ContextAlone
+changes_by BySyscall number = changes_by_syscall number
+changes_by ByInterrupt number = AndFrames
 changes_by ByDone number = ContextAlone
-changes_by ByBack number = ContextAlone
+changes_by ByBack number = AndFrames
 changes_by ByTrap number = ContextAlone
 
 -- what the stay of an entry may change
 abbrev pub changed : KernelState → (code : ℕ) → Part
-changed s code = changes_by (entrance_of s.running.context code) (settle s.running.context).regs.r9
+changed s code = let e = entry_of s.running.context code in changes_by e.gate e.number
 
 -- nothing else is changed
 abbrev pub Changed : Part → (s t : KernelState) → Type 0
@@ -108,11 +115,13 @@ Changed AndEvents s t = t ≡ record s { running = t.running; events = t.events 
 Changed AndChains s t = t ≡ record s { running = t.running; memory = t.memory; chains = t.chains }
 Changed AndHeap s t = t ≡ record s { running = t.running; heap = t.heap }
 Changed AndHeapMemory s t = t ≡ record s { running = t.running; memory = t.memory; heap = t.heap }
+Changed AndFrames s t = t ≡ record s { running = t.running; threads = t.threads; current = t.current; next = t.next; events = t.events; frames = t.frames }
 Changed AndPlace s t = t ≡ record s { running = t.running; memory = t.memory; token = t.token }
 
--- another thread's context may be taken up by the calls on threads alone
+-- another thread's context may be taken up by the calls on threads, and where a callback's return takes up a context
 abbrev pub takes_up_another : Part → Bool
 takes_up_another AndThreads = true
+takes_up_another AndFrames = true
 takes_up_another _ = false
 
 abbrev pub keeps_memory : Part → Bool
@@ -128,3 +137,4 @@ keeps_memory AndChains = false
 keeps_memory AndPlace = false
 keeps_memory AndHeap = true
 keeps_memory AndHeapMemory = false
+keeps_memory AndFrames = true

@@ -83,7 +83,3 @@ StopsBySlot = stay_of (state (record (at 0x80010004 (asking 0)) { next = 0x80010
 
 abbrev pub StopsByTrap : Type 0
 StopsByTrap = stay_of (state (at 0x80010000 (asking 0)) true) 9 ≡ Halt (Exception 9 0x80010000) no_bytes
-
--- an interrupt isn't served yet
-abbrev pub StopsByInterrupt : Type 0
-StopsByInterrupt = stay_of (state (at 0x80010000 (asking 0)) true) 0 ≡ Halt (Exception 0 0x80010000) no_bytes

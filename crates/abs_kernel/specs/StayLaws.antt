@@ -1,5 +1,5 @@
 -- What holds of stays.
-use Rattle.std.specs.Prelude.{◌≡◌, ℕ, ◌<◌, true, None}
+use Rattle.std.specs.Prelude.{◌≡◌, ℕ, true, None}
 use Rattle.psx_base.specs.declared.stop.Stop.{Stop}
 use Rattle.psx_base.specs.declared.stop.Stop.TheVariants.{Unserved}
 use Rattle.psx_base.specs.declared.stop.Table.{Table}
@@ -48,12 +48,12 @@ unserved B s = Unserved B (settled_registers s).r9 (settled_registers s).r31
 unserved C s = Unserved C (settled_registers s).r9 (settled_registers s).r31
 unserved Sys s = Unserved Sys (settled_registers s).r4 (epc_of s.running.context)
 
--- the number isn't served: the table has no call there, or it is no SYSCALL from 0 to 2
+-- the number isn't served: the table has no call there, or it is SYSCALL 3
 abbrev pub IsUnserved : Table → KernelState → Type 0
 IsUnserved A s = served_call A (settled_registers s).r9 ≡ None
 IsUnserved B s = served_call B (settled_registers s).r9 ≡ None
 IsUnserved C s = served_call C (settled_registers s).r9 ≡ None
-IsUnserved Sys s = 2 < (settled_registers s).r4
+IsUnserved Sys s = (settled_registers s).r4 ≡ 3
 
 abbrev pub UnservedStops : Type 0
 UnservedStops = (s : KernelState) (code : ℕ) (table : Table) → entrance_of s.running.context code ≡ to_table table → IsUnserved table s → stay_of s code ≡ Halt (unserved table s) s.memory

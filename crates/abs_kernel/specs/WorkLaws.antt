@@ -1,12 +1,14 @@
 -- What holds of tasks, of deliveries, of frames and of the contexts that they keep.
 use Rattle.std.specs.Prelude.{◌≡◌, ◌≢◌, ℕ, suc, ◌<◌, ◌≤◌, true, false, List, [], ◌∷◌, ◌++◌, length, map, slice_index_or, All, Option, Some, None, if◌then◌else◌}
 use Rattle.psx_base.specs.Context.{IsAtRest}
-use Rattle.psx_base.specs.KernelState.{ThreadContext, Event, Task, Scan, Frame, KernelState}
+use Rattle.psx_base.specs.KernelState.{ThreadContext, Used, Event, Task, Scan, Frame, KernelState}
+use Rattle.psx_base.specs.declared.stop.Stop.TheVariants.{Deep}
 use Rattle.kern_layout.specs.Reads.{thread, event, no_event}
 use Rattle.kern_layout.specs.Valid.{IsUsed, TasksFit, Valid}
+use Rattle.abs_kernel.specs.Stay.{Return, Halt}
 use Rattle.abs_kernel.specs.Answered.{registers_of}
 use Rattle.abs_kernel.specs.StayLaws.{EachReturn}
-use Rattle.abs_kernel.specs.Callback.{pushed, calls_back}
+use Rattle.abs_kernel.specs.Callback.{callback, pushed, calls_back}
 use Rattle.abs_kernel.specs.Scan.{is_called, is_marked, made_ready}
 use Rattle.abs_kernel.specs.TakingUp.{taken_up, resumed}
 use Rattle.abs_kernel.specs.Tasks.{work}
@@ -82,6 +84,17 @@ abbrev pub GoesOnWithLast : Type 0
 GoesOnWithLast = (s : KernelState) (fs : List Frame) (f : Frame) → s.frames ≡ fs ++ (f ∷ [])
     → comes_back s ≡ work (record s { frames = fs }) f.context f.tasks (registers_of s).r2 (registers_of s).r31
 
+-- ReturnFromException takes up its context, whatever tasks it has
+abbrev pub DropsTasks : Type 0
+DropsTasks = (s : KernelState) (fs : List Frame) (f : Frame) → s.frames ≡ fs ++ (f ∷ []) → return_from_exception s ≡ resumed (record s { frames = fs }) f.context
+
+-- a function is called with a frame where there are fewer than eight, and with eight the run stops
+abbrev pub EightFrames : Type 0
+EightFrames =
+    (s : KernelState) (c : ThreadContext) (left : List Task) (function argument ra : ℕ)
+    → (length s.frames < 8 → calls_back s c left function argument ra ≡ Return (record (pushed s (record { context = c; tasks = left })) { running = callback c.context function argument }))
+    × (8 ≤ length s.frames → calls_back s c left function argument ra ≡ Halt (Deep ra) s.memory)
+
 -- a context at rest is taken up as it is, with all its registers, HI, LO and its interrupts
 abbrev pub TakenUpAsKept : Type 0
 TakenUpAsKept = (c : ThreadContext) → IsAtRest c.context → taken_up c ≡ c
@@ -89,3 +102,21 @@ TakenUpAsKept = (c : ThreadContext) → IsAtRest c.context → taken_up c ≡ c
 -- A function that changes nothing but the running context, and returns, leaves what was there before it was called; with no task left, the context is taken up.
 abbrev pub CallbackLeavesNothing : Type 0
 CallbackLeavesNothing = (s : KernelState) (c running : ThreadContext) → comes_back (record (pushed s (record { context = c; tasks = [] })) { running = running }) ≡ resumed (record s { running = running }) c
+
+-- Another thread is taken up, with all its registers, HI, LO and interrupts; the slot of the one that ran keeps a context, and each other slot what it had.
+pub record TakesUpThread (s : KernelState) (n : ℕ) (kept other : ThreadContext) (t : KernelState) : Type 0 where
+  pub running : t.running ≡ other
+  pub current : t.current ≡ n
+  pub none : t.next ≡ None
+  pub slot : thread t s.current ≡ Used kept
+  pub others : (k : ℕ) → k ≢ s.current → thread t k ≡ thread s k
+
+-- Where a callback has named a thread and the last frame goes, that thread is taken up, and the running one's slot keeps the context of the frame.
+abbrev pub NamedIsTakenUp : Type 0
+NamedIsTakenUp =
+    (s : KernelState) (f : Frame) (n : ℕ) (own other : ThreadContext) → s.frames ≡ f ∷ [] → IsAtRest f.context.context → s.next ≡ Some n → s.current < length s.threads → thread s s.current ≡ Used own → thread s n ≡ Used other
+    → (t : KernelState) × TakesUpThread s n f.context other t × (f.tasks ≡ [] → comes_back s ≡ Return t) × (return_from_exception s ≡ Return t)
+
+-- while a frame is left, the context is taken up that the return gives
+abbrev pub NamedWaits : Type 0
+NamedWaits = (s : KernelState) (f : Frame) (fs : List Frame) (c : ThreadContext) → s.frames ≡ f ∷ fs → resumed s c ≡ Return (record s { running = taken_up c })

@@ -113,8 +113,22 @@ pub enum CallId {
     A3D,
     /// puts(s): writes a text to the console, and answers 0.
     A3E,
+    /// printf(format, ..): the format is written with its arguments, and the answer is how many bytes were written.
+    A3F,
     /// FlushCache(): nothing, since there is no cache.
     A44,
+    /// init_timer(t, target, flags): counter t begins at 0 with a target and a mode, and the answer is 1, or 0 where t is above 2.
+    B02,
+    /// get_timer(t): the counter's value, or 0 where t is above 2.
+    B03,
+    /// enable_timer_irq(t): the counter's interrupts, or VBLANK's for 3, are let through, and the answer is 1, or 0 where t is above 3.
+    B04,
+    /// disable_timer_irq(t): they are masked, and the answer is the same.
+    B05,
+    /// restart_timer(t): the counter begins at 0 again, and the answer is 1, or 0 where t is above 2.
+    B06,
+    /// DeliverEvent(class, spec): the busy events of a class and spec become ready, or their functions are called.
+    B07,
     /// OpenEvent(class, spec, mode, function): an event's handle, or -1 where no slot is free.
     B08,
     /// CloseEvent(h): frees the event's slot, and answers 1.
@@ -133,6 +147,8 @@ pub enum CallId {
     B0F,
     /// ChangeThread(h): the thread goes on, and the caller where it is taken up again, with the answer 1.
     B10,
+    /// ReturnFromException(): the innermost function that the kernel has called is left, and what it was called in goes on.
+    B17,
     /// UnDeliverEvent(class, spec): ready events of a class and spec become busy, where a delivery marks them.
     B20,
     /// open(name, mode), in table B.
@@ -169,7 +185,7 @@ pub enum CallId {
 pub type Row = (Table, u32, CallId, u32, &'static str);
 
 /// The calls that are served, by table and number. A call stands here and nowhere else: what a number means, a call's arguments and its name are read from this list.
-pub const ROWS: [Row; 78] = [
+pub const ROWS: [Row; 86] = [
     (Table::A, 0x00, CallId::A00, 2, "open"),
     (Table::A, 0x02, CallId::A02, 3, "read"),
     (Table::A, 0x03, CallId::A03, 3, "write"),
@@ -223,7 +239,14 @@ pub const ROWS: [Row; 78] = [
     (Table::A, 0x3C, CallId::A3C, 1, "putchar"),
     (Table::A, 0x3D, CallId::A3D, 1, "gets"),
     (Table::A, 0x3E, CallId::A3E, 1, "puts"),
+    (Table::A, 0x3F, CallId::A3F, 1, "printf"),
     (Table::A, 0x44, CallId::A44, 0, "FlushCache"),
+    (Table::B, 0x02, CallId::B02, 3, "init_timer"),
+    (Table::B, 0x03, CallId::B03, 1, "get_timer"),
+    (Table::B, 0x04, CallId::B04, 1, "enable_timer_irq"),
+    (Table::B, 0x05, CallId::B05, 1, "disable_timer_irq"),
+    (Table::B, 0x06, CallId::B06, 1, "restart_timer"),
+    (Table::B, 0x07, CallId::B07, 2, "DeliverEvent"),
     (Table::B, 0x08, CallId::B08, 4, "OpenEvent"),
     (Table::B, 0x09, CallId::B09, 1, "CloseEvent"),
     (Table::B, 0x0A, CallId::B0A, 1, "WaitEvent"),
@@ -233,6 +256,7 @@ pub const ROWS: [Row; 78] = [
     (Table::B, 0x0E, CallId::B0E, 3, "OpenThread"),
     (Table::B, 0x0F, CallId::B0F, 1, "CloseThread"),
     (Table::B, 0x10, CallId::B10, 1, "ChangeThread"),
+    (Table::B, 0x17, CallId::B17, 0, "ReturnFromException"),
     (Table::B, 0x20, CallId::B20, 2, "UnDeliverEvent"),
     (Table::B, 0x32, CallId::B32, 2, "open"),
     (Table::B, 0x34, CallId::B34, 3, "read"),

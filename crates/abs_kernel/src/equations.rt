@@ -1,5 +1,7 @@
 //! Stays and tasks evaluated on small states, one for each cause of an entry. Each function does nothing.
-ghost use Rattle.abs_kernel.specs.Equations.{PutsByA, PutsInOneAccess, PutsByLoadedNumber, ExitsByA, StopsByA, ExitsByB, StopsByC, EndsByDone, StopsByBack, NothingBySyscall, OffBySyscall, OnBySyscall, StopsBySyscall, StopsBySlot, StopsByTrap, StopsByInterrupt};
+ghost use Rattle.abs_kernel.specs.Equations.{PutsByA, PutsInOneAccess, PutsByLoadedNumber, ExitsByA, StopsByA, ExitsByB, StopsByC, EndsByDone, StopsByBack, NothingBySyscall, OffBySyscall, OnBySyscall, StopsBySyscall, StopsBySlot, StopsByTrap};
+ghost use Rattle.abs_kernel.specs.CounterEquations.{BeginsSystem, BeginsDots, BeginsLines, NoCounter, Gets, Restarts, Enables, EnablesBlank, Disables, NoLine};
+ghost use Rattle.abs_kernel.specs.InterruptEquations.{NoLine as NoLineIsRaised, AtBranch, AtGate, FourLines, CallsFunction as CallsLineFunction, TasksInOrder, CallsElement as CallsChainElement};
 ghost use Rattle.abs_kernel.specs.HeapEquations.{FirstFit, NewBlocks, Joined, JoinedBoth, Rounded, Reallocated, Bases, Sizes, NoSize};
 ghost use Rattle.abs_kernel.specs.WorkEquations.{MakesReady, PassesOver, CallsFunction, ComesBack, DropsTasks, FunctionZero, NinthFrame, NoFrame, StackWraps, PassesElements, CallsElement, HandlesLines, TakesUpNamed};
 
@@ -31,12 +33,23 @@ pub fn syscalls()
     ensures stops { StopsBySyscall }
 {}
 
-/// Other exceptions, and interrupts.
+/// Other exceptions.
 #[tactic(auto, unfolding(crate::specs::KernelStep::stay_of))]
 pub fn exceptions()
     ensures slot { StopsBySlot }
     ensures trap { StopsByTrap }
-    ensures interrupt { StopsByInterrupt }
+{}
+
+/// Interrupts: without a line, in a delay slot, at a gate, with lines, with functions and with elements of chains.
+#[tactic(auto, unfolding(crate::specs::KernelStep::stay_of))]
+pub fn interrupts()
+    ensures no_line { NoLineIsRaised }
+    ensures branch { AtBranch }
+    ensures gate { AtGate }
+    ensures lines { FourLines }
+    ensures function { CallsLineFunction }
+    ensures order { TasksInOrder }
+    ensures element { CallsChainElement }
 {}
 
 /// Calls of the heap, one after the other from InitHeap on.
@@ -75,4 +88,19 @@ pub fn tasks()
     ensures called { CallsElement }
     ensures lines { HandlesLines }
     ensures named { TakesUpNamed }
+{}
+
+/// The calls on root counters: which ports they read and write, in their order, and with what.
+#[tactic(auto, unfolding(crate::specs::KernelStep::stay_of))]
+pub fn counters()
+    ensures begins_system { BeginsSystem }
+    ensures begins_dots { BeginsDots }
+    ensures begins_lines { BeginsLines }
+    ensures none { NoCounter }
+    ensures gets { Gets }
+    ensures restarts { Restarts }
+    ensures enables { Enables }
+    ensures enables_blank { EnablesBlank }
+    ensures disables { Disables }
+    ensures no_line { NoLine }
 {}

@@ -4,7 +4,8 @@ ghost use Rattle.abs_kernel.specs.StayLaws.{UnservedStops, MemoryKept, RestKept,
 ghost use Rattle.abs_kernel.specs.PlayedLaws.{PlayedKeeps, HaltedKeeps, AnswersInOrder, MoreAnswers, EnoughAnswers};
 ghost use Rattle.abs_kernel.specs.AccessLaws.{TestsPass, TestsStop, WordsWithin, WordsStay, TextsEnd};
 ghost use Rattle.abs_kernel.specs.ProgramLaws.{InterruptsGivenBack, EnteredAgain};
-ghost use Rattle.abs_kernel.specs.WorkLaws.{WorkKeepsValid, BackKeepsValid, DeliveryKeepsValid, DeliversToAll, DeliversToTheLast, DeliversToACall, LastInFirstOut, GoesOnWithLast, TakenUpAsKept, CallbackLeavesNothing};
+ghost use Rattle.abs_kernel.specs.WorkLaws.{WorkKeepsValid, BackKeepsValid, DeliveryKeepsValid, DeliversToAll, DeliversToTheLast, DeliversToACall, LastInFirstOut, GoesOnWithLast, TakenUpAsKept, CallbackLeavesNothing, DropsTasks, EightFrames, NamedIsTakenUp, NamedWaits};
+ghost use Rattle.abs_kernel.specs.InterruptLaws.{LineIsHandled, OnlyLines, ContextInterrupted, EntryTakesUp, FrameTakesUp, ThreadTakesUp, NamesThread, Preempts};
 ghost use Rattle.abs_kernel.specs.UserLaws.{UserStepKeepsValid};
 ghost use Rattle.abs_kernel.specs.ThreadLaws.{OneHandle, BadHandleStops, OpensLowest, UsedStay, ChangesBack};
 ghost use Rattle.abs_kernel.specs.Numeral.{NumeralIsOne};
@@ -89,18 +90,48 @@ pub fn tasks()
     ensures delivers { DeliveryKeepsValid }
 {}
 
-/// A delivery makes ready exactly the busy events of mode 2000h with its class and spec: in one stay where none has a function to be called,
-/// and else over the stays up to the last callback's return, going on behind each event whose function was called with the events as they are then.
+/// A delivery makes ready exactly the busy events of mode 2000h with its class and spec, in one stay where none has a function to be called.
+/// Where some has, a scan from any number on makes them ready up to the first such event, whose function is called with the scan from behind it as what is left; and where none is left, up to the last event.
 pub fn deliveries()
     ensures all { DeliversToAll }
     ensures last { DeliversToTheLast }
     ensures call { DeliversToACall }
 {}
 
-/// Frames are last in, first out, whatever the callbacks between have done, and the context that a frame keeps is taken up as it was.
+/// Frames are last in, first out, whatever the callbacks between have done, and there are at most eight; with eight a call of a function stops as Deep.
+/// The return of a function goes on with the last frame's tasks, and ReturnFromException drops them. The context that a frame keeps is taken up as it was.
 pub fn callbacks()
     ensures frames { LastInFirstOut }
     ensures goes_on { GoesOnWithLast }
+    ensures drops { DropsTasks }
+    ensures eight { EightFrames }
     ensures context { TakenUpAsKept }
     ensures nothing { CallbackLeavesNothing }
+{}
+
+/// A thread that a callback has named is taken up when the last frame goes, with all its registers, HI, LO and interrupts, and the slot of the one that ran keeps the frame's context. While a frame is left, its context is taken up.
+pub fn named_threads()
+    ensures taken_up { NamedIsTakenUp }
+    ensures waits { NamedWaits }
+{}
+
+/// The lines of an interrupt: each of VBLANK and the counters that is pending and enabled is taken back in I_STAT, VBLANK first and then the counters, and makes ready exactly the busy events of mode 2000h with its class and spec 2, where none has a function to be called.
+pub fn interrupt_lines()
+    ensures handled { LineIsHandled }
+    ensures lines { OnlyLines }
+{}
+
+/// The context that an interrupt meets has the program's registers, HI, LO and interrupts, with a pending load written; pc and k0 are the interrupted instruction, in a delay slot its branch, and k1 is 0.
+/// It is taken up so by the entry itself; or where a function is called, when the frame that keeps it has gone; or where a callback has named another thread, when its own thread next runs.
+pub fn interrupted_contexts()
+    ensures context { ContextInterrupted }
+    ensures entry { EntryTakesUp }
+    ensures frame { FrameTakesUp }
+    ensures thread { ThreadTakesUp }
+{}
+
+/// A callback that calls ChangeThread names a thread, which runs when the last frame has returned with no task left. The thread that ran has all its registers, HI, LO and interrupts when it is next taken up.
+pub fn preemption()
+    ensures names { NamesThread }
+    ensures preempts { Preempts }
 {}
