@@ -13,13 +13,14 @@ use Rattle.psx_board.specs.Machine.{Machine, start}
 use Rattle.psx_board.specs.Run.{Outcome, run, board_run}
 use Rattle.kern_layout.specs.Start.{SizesFit}
 use Rattle.kern_layout.proofs.StartValid.{start-valid}
-use Rattle.abs_run.specs.Accepted.{IsAccepted, opening, program_memory}
+use Rattle.abs_run.specs.Accepted.{IsAccepted, AreBytes, opening, program_memory}
 use Rattle.abs_run.specs.Serves.{ServesRom}
 use Rattle.abs_run.specs.KernelRun.{User, RunsFrom, EndsInBoot, ComesToProgram}
 use Rattle.abs_kernel.specs.Stay.{Stay, Return, Halt, Ask, Tell, Write as Put, Touch}
 use Rattle.abs_kernel.specs.KernelStep.{stay_of}
 use Rattle.abs_run.specs.Invariant.{ReturnsTo, IsInvariant, EachEntry}
-use Rattle.abs_run.specs.RunLaws.{BoardRuns, BootsIn, BoardBoots, always, EveryRun}
+use Rattle.abs_run.specs.RunLaws.{BoardRuns, BootsIn, BoardReturnsInTime, BoardBoots, always, EveryRun, EveryInterrupt}
+use Rattle.abs_run.specs.InTime.{InterruptsInTime}
 use Rattle.abs_run.proofs.Counts.{run-rises}
 use Rattle.abs_run.proofs.Staying.{AtUser}
 use Rattle.abs_run.proofs.Composition.{each_run}
@@ -54,27 +55,36 @@ module _ (covers : KernelState → ℕ → Type 0) (keeps : KernelState → Hist
   }
 
   comes : (schedule : List Entry) (n : ℕ) (o : Outcome) → BootRun rom exe sizes serves.boot_steps n (start rom exe sizes schedule) o → EachEntry shows o.items
-      → EndsInBoot exe o.items o.tty o.last.core.bytes ⊎ ComesToProgram exe sizes o.items o.tty o.last.core.bytes
+      → (EndsInBoot exe o.items o.tty o.last.core.bytes ⊎ ComesToProgram exe sizes o.items o.tty o.last.core.bytes) × InterruptsInTime o.items
   comes schedule n o (inl (less, h)) each =
       let few = serves.boot_few in let c = h.counted in
-      inl (record { count = h.count; few = omega arith; shown = h.items; silent = h.silent; memory = h.memory })
+      (inl (record { count = h.count; few = omega arith; shown = h.items; silent = h.silent; memory = h.memory }), subst InterruptsInTime (sym h.items) tt)
   comes schedule n o (inr (low, h)) each =
       let few = serves.boot_few in let c = h.counted in
       let each' : EachEntry shows (run h.left h.next).items = subst (λ (x : Outcome). EachEntry shows x.items) h.is each in
-      inr (record {
-        count = h.next.history.now;
-        rest = (run h.left h.next).items;
-        few = omega arith;
-        shown = ap (λ (x : Outcome). x.items) h.is;
-        runs = subst (λ (x : Outcome). RunsFrom (run h.left h.next).items (User (opening exe sizes) h.next.history.now) x.tty x.last.core.bytes) (sym h.is)
-            (each_run covers keeps shows rom serves inv h.left h.next (opening exe sizes) (at-program h.next h.started) each');
-      })
+      let runs = each_run covers keeps shows rom serves inv h.left h.next (opening exe sizes) (at-program h.next h.started) each' in (
+        inr (record {
+          count = h.next.history.now;
+          rest = (run h.left h.next).items;
+          few = omega arith;
+          shown = ap (λ (x : Outcome). x.items) h.is;
+          runs = subst (λ (x : Outcome). RunsFrom (run h.left h.next).items (User (opening exe sizes) h.next.history.now) x.tty x.last.core.bytes) (sym h.is) runs.0;
+        }),
+        subst (λ (x : Outcome). InterruptsInTime x.items) (sym h.is) runs.1,
+      )
+
+  come : (schedule : List Entry) (budget : ℕ) → AreBytes schedule → let o = board_run rom exe sizes schedule budget in EachEntry shows o.items
+      → (EndsInBoot exe o.items o.tty o.last.core.bytes ⊎ ComesToProgram exe sizes o.items o.tty o.last.core.bytes) × InterruptsInTime o.items
+  come schedule budget bytes each = comes schedule budget _ (from_reset rom exe sizes serves.boot_steps budget schedule serves.bytes acc fit bytes (serves.boots exe sizes acc fit)) each
 
 pub board_runs : (covers : KernelState → ℕ → Type 0) (keeps : KernelState → History → Type 0) (shows : Entrance → ℕ → Type 0) → BoardRuns covers keeps shows
 board_runs covers keeps shows rom serves inv exe sizes schedule budget acc fit bytes each = record {
   counts = run-rises budget (start rom exe sizes schedule);
-  comes = comes covers keeps shows rom serves inv exe sizes acc fit schedule budget _ (from_reset rom exe sizes serves.boot_steps budget schedule serves.bytes acc fit bytes (serves.boots exe sizes acc fit)) each;
+  comes = (come covers keeps shows rom serves inv exe sizes acc fit schedule budget bytes each).0;
 }
+
+pub board_returns_in_time : (covers : KernelState → ℕ → Type 0) (keeps : KernelState → History → Type 0) (shows : Entrance → ℕ → Type 0) → BoardReturnsInTime covers keeps shows
+board_returns_in_time covers keeps shows rom serves inv exe sizes schedule budget acc fit bytes each = (come covers keeps shows rom serves inv exe sizes acc fit schedule budget bytes each).1
 
 -- ---- where everything is served
 
@@ -107,3 +117,7 @@ each-always (S count stop ∷ rest) = each-always rest
 pub every_run : EveryRun
 every_run rom serves exe sizes schedule budget acc fit bytes =
     board_runs always (λ s h. Unit {0}) (λ gate number. Unit {0}) rom serves always-invariant exe sizes schedule budget acc fit bytes (each-always (board_run rom exe sizes schedule budget).items)
+
+pub every_interrupt : EveryInterrupt
+every_interrupt rom serves exe sizes schedule budget acc fit bytes =
+    board_returns_in_time always (λ s h. Unit {0}) (λ gate number. Unit {0}) rom serves always-invariant exe sizes schedule budget acc fit bytes (each-always (board_run rom exe sizes schedule budget).items)

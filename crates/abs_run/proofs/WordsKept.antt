@@ -10,7 +10,7 @@ use Rattle.psx_base.specs.Memory.{Memory, byte, half, word, put_byte, put_half, 
 use Rattle.psx_base.specs.Addresses.{place}
 use Rattle.psx_base.specs.PortAddresses.{port}
 use Rattle.psx_base.specs.Registers.{Registers, registers, register, with_register, nth, chosen}
-use Rattle.psx_base.specs.Context.{Context, settled, settle, epc_of, placed}
+use Rattle.psx_base.specs.Context.{Context, settled, settle, epc_of, placed, taken}
 use Rattle.psx_ram.proofs.Laws.{byte-put_byte}
 use Rattle.psx_cpu.specs.Words.{sign_extended}
 use Rattle.psx_cpu.specs.Processor.{Cop0, State, Bus}
@@ -66,6 +66,12 @@ slot-fits c to f w = record { regs = f.regs; pending = f.pending; pc = f.next; n
 
 pub placed-fits : (c : Context) (at : ℕ) → ContextFits c → IsWord at → ContextFits (placed c at)
 placed-fits c at f w = record { regs = f.regs; pending = f.pending; pc = w; next = mod-word (at + 4) }
+
+pub taken-fits : (c : Context) (at : ℕ) → ContextFits c → IsWord at → ContextFits (taken c at)
+taken-fits c at f w =
+    let s = settle-fits c f in
+    let k0 = with-fits (settle c).regs 26 at s.regs w in
+    record { regs = with-fits (with_register (settle c).regs 26 at) 27 0 k0 (omega arith); pending = tt; pc = w; next = mod-word (at + 4) }
 
 pub epc-word : (c : Context) → ContextFits c → IsWord (epc_of c)
 epc-word c f = if-word c.in_slot _ _ (mod-word (c.pc + (2 ^ 32 - 4))) f.pc

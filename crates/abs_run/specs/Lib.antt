@@ -2,6 +2,7 @@ pub mod Accepted
 pub mod InWords
 pub mod InKernel
 pub mod Serves
+pub mod InTime
 pub mod Entered
 pub mod KernelRun
 pub mod Lists

@@ -15,6 +15,7 @@ use Rattle.abs_run.specs.Accepted.{IsAccepted, AreBytes}
 use Rattle.abs_kernel.specs.Stay.{Stay}
 use Rattle.abs_run.specs.InKernel.{InKernel}
 use Rattle.abs_run.specs.Serves.{Runs, ServesRom}
+use Rattle.abs_run.specs.InTime.{InterruptsInTime}
 use Rattle.abs_run.specs.Lists.{ServesLists}
 use Rattle.abs_run.specs.KernelRun.{KernelRun}
 use Rattle.abs_run.specs.Invariant.{IsInvariant, EachEntry}
@@ -65,6 +66,18 @@ ListsAreServed = (rom : List ℕ) (stay : Stay) (bound : ℕ) (k : InKernel) →
 
 abbrev pub always : KernelState → ℕ → Type 0
 always s code = Unit {0}
+
+-- Where a ROM serves what is covered, each interrupt of such a run returns in time.
+abbrev pub BoardReturnsInTime : (KernelState → ℕ → Type 0) → (KernelState → History → Type 0) → (Entrance → ℕ → Type 0) → Type 0
+BoardReturnsInTime covers keeps shows =
+    (rom : List ℕ) → ServesRom covers rom → IsInvariant covers keeps shows
+    → (exe : Exe) (sizes : Sizes) (schedule : List Entry) (budget : ℕ) → IsAccepted exe → SizesFit sizes → AreBytes schedule
+    → let o = board_run rom exe sizes schedule budget in EachEntry shows o.items → InterruptsInTime o.items
+
+abbrev pub EveryInterrupt : Type 0
+EveryInterrupt =
+    (rom : List ℕ) → ServesRom always rom → (exe : Exe) (sizes : Sizes) (schedule : List Entry) (budget : ℕ) → IsAccepted exe → SizesFit sizes → AreBytes schedule
+    → InterruptsInTime (board_run rom exe sizes schedule budget).items
 
 -- Where a ROM serves every entry, each run of the board is a kernel run of its program.
 abbrev pub EveryRun : Type 0

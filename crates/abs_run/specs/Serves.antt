@@ -20,7 +20,7 @@ use Rattle.abs_kernel.specs.Stay.{Stay, Return, Halt, Ask, Tell, Write, Touch}
 use Rattle.abs_kernel.specs.KernelStep.{stay_of}
 use Rattle.abs_run.specs.Accepted.{IsAccepted, opening}
 use Rattle.abs_run.specs.InWords.{CoreFits}
-use Rattle.abs_run.specs.InKernel.{InKernel, side_of, Sign, Nothing, PortRead, PortWritten, Printed, LeftKernel, EndedRun, sign_of}
+use Rattle.abs_run.specs.InKernel.{InKernel, side_of, Sign, Nothing, PortRead, PortWritten, Printed, LeftKernel, EndedRun, Strayed, sign_of}
 use Rattle.abs_run.specs.Entered.{MayEnter, bound_of}
 
 -- whatever the bus brings: the interrupt line is either way, and a port answers any word
@@ -73,6 +73,27 @@ Runs rom (Tell port value next) bound k = Comes (WritesTo port value (λ left. R
 Runs rom (Write byte next) bound k = Comes (Prints byte (λ left. Runs rom next (left + 128))) bound k
 Runs rom (Touch bytes next) bound k = Runs rom next (bound + 128 * bytes) k
 
+-- ---- the time of an interrupt
+
+-- a step of the kernel's side goes on, or returns to the user side or ends the run; that none strays is said of stays
+abbrev pub FinishesOn : (InKernel → Type 0) → Sign → Type 0
+FinishesOn on (Nothing next) = on next
+FinishesOn on (PortRead next at value) = on next
+FinishesOn on (PortWritten next at value) = on next
+FinishesOn on (Printed next byte) = on next
+FinishesOn on (LeftKernel next) = Unit {0}
+FinishesOn on (EndedRun next stop) = Unit {0}
+FinishesOn on Strayed = Unit {0}
+
+-- within so many steps, whatever is touched and however many ports are accessed, the words return or end the run
+abbrev pub Finishes : ℕ → InKernel → Type 0
+Finishes zero k = ⊥
+Finishes (suc left) k = EachBus (λ (bus : Bus). FinishesOn (Finishes left) (sign_of k (step k.core bus)))
+
+-- an interrupt's stay takes at most so many
+abbrev pub most_interrupt_steps : ℕ
+most_interrupt_steps = 8192
+
 -- ---- the boot code
 
 abbrev pub is_start_port : ℕ → Bool
@@ -100,7 +121,7 @@ GatesRead rom = (m : Memory) (at : ℕ) → HoldsRom m rom → is_some (gate_of 
 abbrev pub entered : Core → Trap → (a b c : ℕ) → InKernel
 entered k trap a b c = record { core = record k { processor = enter k.processor trap }; a = a; b = b; c = c }
 
--- A ROM serves what is covered, by the state and the exception's code: from each processor with its memory, of words and bytes, that stands for a valid state. The boot takes the same number of steps for all programs and sizes.
+-- A ROM serves what is covered, by the state and the exception's code: from each processor with its memory, of words and bytes, that stands for a valid state, and an interrupt in time. The boot takes the same number of steps for all programs and sizes.
 pub record ServesRom (covers : KernelState → ℕ → Type 0) (rom : List ℕ) : Type 0 where
   pub bytes : All (λ (b : ℕ). b < 2 ^ 8) rom
   pub gates : GatesRead rom
@@ -109,3 +130,5 @@ pub record ServesRom (covers : KernelState → ℕ → Type 0) (rom : List ℕ) 
   pub boots : (exe : Exe) (sizes : Sizes) → IsAccepted exe → SizesFit sizes → Boots rom exe sizes boot_steps (start rom exe sizes []).core
   pub stays : (k : Core) (s : KernelState) (trap : Trap) (a b c : ℕ) → Valid s → CoreFits k → Stands (side_of k) k.bytes s rom → MayEnter s trap → covers s trap.code
       → Runs rom (stay_of s trap.code) (bound_of s trap.code) (entered k trap a b c)
+  pub interrupts : (k : Core) (s : KernelState) (trap : Trap) (a b c : ℕ) → Valid s → CoreFits k → Stands (side_of k) k.bytes s rom → MayEnter s trap → covers s trap.code → trap.code ≡ 0
+      → Finishes most_interrupt_steps (entered k trap a b c)
