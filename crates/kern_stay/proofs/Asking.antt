@@ -1,7 +1,7 @@
 -- What the proof of a call cites that takes bytes of the console, and may wait.
-use Rattle.std.proofs.Common.{◌≡◌, ℕ, ◌+◌, ◌*◌, ◌%◌, ◌^◌, ◌≤◌, List, [], ◌∷◌, inl, true, false, cond, refl, sym, ap, ◌∙◌, subst, arith, eq-eqb, ne_eqb}
+use Rattle.std.proofs.Common.{◌≡◌, ℕ, ◌+◌, ◌*◌, ◌%◌, ◌^◌, ◌≤◌, List, [], ◌∷◌, inl, true, false, cond, refl, sym, ap, subst, arith, eq-eqb, ne_eqb}
 use Rattle.std.specs.Prelude.{nat_eq, if◌then◌else◌}
-use Rattle.psx_base.specs.Addresses.{place, user}
+use Rattle.psx_base.specs.Addresses.{user}
 use Rattle.psx_base.specs.Ports.{CONSOLE_STATUS, CONSOLE_DATA}
 use Rattle.psx_base.specs.KernelState.{KernelState}
 use Rattle.psx_flow.specs.Run.{Run, Access, PortRead}

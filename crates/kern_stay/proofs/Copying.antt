@@ -82,6 +82,7 @@ module _ (C : Calls) (fair : Fair C) (at : ℕ) (s : Run) (from to count : ℕ) 
             record {
               back = ap (λ x. x.r31) h.regs;
               regs = h.regs;
+              next = h.r9 ∙ (let q : 0x80000000 + (to + 4 * i) ≡ 0x80000000 + (to + 4 * count) = omega (arith, all) in q);
               cop0 = h.cop0;
               words = record { copied = λ j lt. h.copied j (omega (arith, all)); words = h.words; bytes = h.bytes };
               ports = h.ports;

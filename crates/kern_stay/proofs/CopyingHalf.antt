@@ -154,21 +154,26 @@ knows_half place ls = record {
   };
 }
 
--- ---- two halves
+-- ---- one run behind another
 
--- the second run begins where the first one ended, 17 words on
-pub both_copied : (m mid n : Memory) (from to : ℕ) → (from % 4 ≡ 0) × (to % 4 ≡ 0) → (from + 140 ≤ to) ⊎ (to + 140 ≤ from) → WordsCopied m mid from to 18 → WordsCopied mid n (from + 68) (to + 68) 18 → WordsCopied m n from to 35
-both_copied m mid n from to even far c d = let from_even = even.0 in let to_even = even.1 in record {
-  copied = λ k lt. ⊎_elim
-      (λ (l : k < 17).
-      d.words (to + 4 * k) (omega (arith, to_even)) (inl (omega (arith, l))) ∙ c.copied k (omega (arith, l)))
-      (λ (g : 17 ≤ k).
-      let j : ℕ = k - 17 in
-      let to_is : to + 4 * k ≡ to + 68 + 4 * j = omega (arith, g) in
-      let from_is : from + 68 + 4 * j ≡ from + 4 * k = omega (arith, g) in
+-- the second run begins where the first ones ended, k words on
+pub more_copied : (m mid n : Memory) (from to k : ℕ) → (from % 4 ≡ 0) × (to % 4 ≡ 0) → (from + 4 * (k + 18) ≤ to) ⊎ (to + 4 * (k + 18) ≤ from) → WordsCopied m mid from to (suc k) → WordsCopied mid n (from + 4 * k) (to + 4 * k) 18
+    → WordsCopied m n from to (k + 18)
+more_copied m mid n from to k even far c d = let from_even = even.0 in let to_even = even.1 in record {
+  copied = λ i lt. ⊎_elim
+      (λ (l : i < k).
+      d.words (to + 4 * i) (omega (arith, to_even)) (inl (omega (arith, l))) ∙ c.copied i (omega (arith, l)))
+      (λ (g : k ≤ i).
+      let j : ℕ = i - k in
+      let to_is : to + 4 * i ≡ to + 4 * k + 4 * j = omega (arith, g) in
+      let from_is : from + 4 * k + 4 * j ≡ from + 4 * i = omega (arith, g) in
       ap (word n) to_is ∙ d.copied j (omega (arith, g, lt)) ∙ ap (word mid) from_is
-      ∙ c.words (from + 4 * k) (omega (arith, from_even)) (⊎_elim (λ o. inl (omega (arith, o, lt))) (λ o. inr (omega (arith, o))) far))
-      (cases_lt k 17);
+      ∙ c.words (from + 4 * i) (omega (arith, from_even)) (⊎_elim (λ o. inl (omega (arith, o, lt))) (λ o. inr (omega (arith, o))) far))
+      (cases_lt i k);
   words = λ a al out. d.words a al (⊎_elim (λ o. inl (omega (arith, o))) (λ o. inr (omega (arith, o))) out) ∙ c.words a al (⊎_elim (λ o. inl o) (λ o. inr (omega (arith, o))) out);
   bytes = λ a out. d.bytes a (⊎_elim (λ o. inl (omega (arith, o))) (λ o. inr (omega (arith, o))) out) ∙ c.bytes a (⊎_elim (λ o. inl o) (λ o. inr (omega (arith, o))) out);
 }
+
+-- two runs copy a context
+pub both_copied : (m mid n : Memory) (from to : ℕ) → (from % 4 ≡ 0) × (to % 4 ≡ 0) → (from + 140 ≤ to) ⊎ (to + 140 ≤ from) → WordsCopied m mid from to 18 → WordsCopied mid n (from + 68) (to + 68) 18 → WordsCopied m n from to 35
+both_copied m mid n from to even far c d = more_copied m mid n from to 17 even far c d

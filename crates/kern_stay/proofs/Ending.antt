@@ -1,25 +1,27 @@
 -- What the proof of a routine cites besides psx_flow's Kit: its ends, what is left of its stay, and its accesses to user memory.
-use Rattle.std.proofs.Common.{◌≡◌, ℕ, ◌+◌, ◌*◌, ◌%◌, ◌^◌, ◌/◌, ◌⊎◌, ◌<◌, ◌≤◌, List, [], ◌∷◌, inl, inr, Bool, true, false, refl, sym, ap, ◌∙◌, subst, arith}
+use Rattle.std.proofs.Common.{◌≡◌, ℕ, ◌+◌, ◌*◌, ◌%◌, ◌^◌, ◌/◌, ◌⊎◌, ◌<◌, ◌≤◌, [], inl, inr, Bool, true, false, refl, sym, ap, ◌∙◌, subst, arith}
 use Rattle.std.specs.Prelude.{nat_eq, ◌&&◌, ◌||◌, if◌then◌else◌}
 use Rattle.std.proofs.lemmas.Bool.{false≢true}
 use Rattle.psx_base.specs.Addresses.{place, user, top, low, user_main, scratchpad}
 use Rattle.psx_base.specs.Memory.{Memory, byte}
-use Rattle.psx_base.specs.KernelState.{ThreadContext, Task, KernelState}
+use Rattle.psx_base.specs.KernelState.{KernelState}
 use Rattle.psx_flow.specs.Run.{Run}
-use Rattle.psx_base.specs.declared.stop.Stop.TheVariants.{BadThread, Deep}
+use Rattle.psx_base.specs.declared.stop.Stop.TheVariants.{BadThread}
 use Rattle.psx_flow.specs.Told.{ports}
-use Rattle.kern_layout.specs.Stands.{SameUser}
-use Rattle.abs_kernel.specs.Stay.{Stay, Halt}
+use Rattle.abs_kernel.specs.Stay.{Stay, Return, Halt, Ask, Tell, Write, Touch}
 use Rattle.abs_kernel.specs.Answered.{registers_of, answered}
 use Rattle.abs_kernel.specs.UserBytes.{count_of, bad_pointer, reads_byte, writes_byte, with_byte}
-use Rattle.abs_kernel.specs.Work.{takes_up, IsWork}
-use Rattle.kern_stay.specs.declared.places.TheConstants.{LEAVE, WORK, BAD_POINTER, BAD_THREAD, DEEP}
-use Rattle.kern_stay.specs.Doors.{Holds, Works, Ends, Through}
+use Rattle.kern_stay.specs.declared.places.TheConstants.{LEAVE, WORK, BAD_POINTER, BAD_THREAD}
+use Rattle.kern_stay.specs.Doors.{Holds, Works, AtWork, Behind, Ends, Through, most_steps}
 
 -- ---- the ends, of a stay that accesses no port
 
 pub through : (stay : Stay) (most to : ℕ) (e : Run) → ports e.seen ≡ [] → Ends 128 stay most to e → Through stay most to e
 through stay most to e q h = record { told = []; ports = q; follows = tt; ends = inl h }
+
+-- a stay that is another by what memory or an argument has
+pub through_as : (stay now : Stay) (most to : ℕ) (e : Run) → stay ≡ now → Through now most to e → Through stay most to e
+through_as stay now most to e is h = subst (λ y. Through y most to e) (sym is) h
 
 pub answers : (most : ℕ) (state : KernelState) (e : Run) (stay : Stay) → stay ≡ answered state e.regs.r2 → Holds state e.bytes → e.steps ≤ most → Ends 128 stay most LEAVE e
 answers most state e stay is h few = subst (λ x. Ends 128 x most LEAVE e) (sym is) (few, record { state = state; is = refl; holds = h })
@@ -27,24 +29,22 @@ answers most state e stay is h few = subst (λ x. Ends 128 x most LEAVE e) (sym 
 pub refuses : (most : ℕ) (state : KernelState) (e : Run) (stay : Stay) → stay ≡ bad_pointer state e.regs.r8 → Holds state e.bytes → e.steps ≤ most → Ends 128 stay most BAD_POINTER e
 refuses most state e stay is h few = subst (λ x. Ends 128 x most BAD_POINTER e) (sym is) (few, record { state = state; is = refl; memory_is = refl; holds = h })
 
+-- a further door, for the whole of what is left
+pub at_once : (P : Stay → Type 0) (rest : Stay) → P rest → Behind P rest
+at_once P (Touch bytes next) h = inl h
+at_once P (Return state) h = h
+at_once P (Halt stop memory) h = h
+at_once P (Ask port next) h = h
+at_once P (Tell port value next) h = h
+at_once P (Write byte next) h = h
+
 -- the tasks are done from WORK on
-pub works : (stay : Stay) (most : ℕ) (e : Run) → ports e.seen ≡ [] → Works stay e → e.steps ≤ most → Through stay most WORK e
-works stay most e q h few = record { told = []; ports = q; follows = tt; ends = inr (refl, few, h) }
-
--- where no task is left
-pub work_is : (s : KernelState) (c : ThreadContext) (ts : List Task) (value ra : ℕ) (rest : Stay) → IsWork s c ts value ra rest → rest ≡ takes_up s c
-work_is s c [] value ra rest h = h.1
-work_is s c (t ∷ ts) value ra rest h = absurd h
-
-pub works_end : (rest : Stay) (e : Run) (h : Works rest e) → rest ≡ takes_up h.state h.context
-works_end rest e h = work_is h.state h.context h.tasks e.regs.r2 e.regs.r31 rest h.is
+pub works : (stay : Stay) (most : ℕ) (e : Run) → ports e.seen ≡ [] → Works stay e → e.steps ≤ most → e.steps ≤ most_steps → Through stay most WORK e
+works stay most e q h few less = record { told = []; ports = q; follows = tt; ends = inr (few, less, at_once (λ x. AtWork x WORK e) stay (refl, h)) }
 
 -- a handle that names no thread, and a frame too many
 pub refuses_thread : (most : ℕ) (state : KernelState) (e : Run) (stay : Stay) → stay ≡ Halt (BadThread e.regs.r8 (registers_of state).r31) state.memory → Holds state e.bytes → e.steps ≤ most → Ends 128 stay most BAD_THREAD e
 refuses_thread most state e stay is h few = subst (λ x. Ends 128 x most BAD_THREAD e) (sym is) (few, record { state = state; is = refl; memory_is = refl; holds = h })
-
-pub overflows : (most : ℕ) (memory : Memory) (e : Run) (stay : Stay) → stay ≡ Halt (Deep e.regs.r31) memory → SameUser e.bytes memory → e.steps ≤ most → Ends 128 stay most DEEP e
-overflows most memory e stay is h few = subst (λ x. Ends 128 x most DEEP e) (sym is) (few, record { is = refl; user = h })
 
 -- ---- what is left of a stay, and how many nodes it may end at, where the whole of it has a flat bound
 

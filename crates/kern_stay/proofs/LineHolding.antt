@@ -1,5 +1,5 @@
 -- What stores to the line of gets make of the state that a memory stands for, while the kernel runs.
-use Rattle.std.proofs.Common.{◌≡◌, ℕ, ◌+◌, ◌%◌, ◌^◌, ◌<◌, ◌≤◌, List, ◌∷◌, [], ◌++◌, length, inr, true, sym, ap, ◌∙◌, arith, refl}
+use Rattle.std.proofs.Common.{◌≡◌, ℕ, ◌+◌, ◌%◌, ◌^◌, ◌<◌, ◌≤◌, List, ◌∷◌, [], ◌++◌, length, inr, true, ◌∙◌, arith, refl}
 use Rattle.psx_base.specs.Memory.{Memory, byte, word, put_byte, put_word}
 use Rattle.psx_base.specs.Addresses.{place, user}
 use Rattle.psx_base.specs.KernelState.{KernelState}

@@ -1,11 +1,11 @@
 -- The listing of ROOM gives the number.
 use Rattle.psx_flow.proofs.Kit.{false, ◌≡◌, ℕ, ◌+◌, ◌-◌, ◌%◌, ◌^◌, ◌<◌, ◌≤◌, inl, inr, List, refl, sym, ap, ◌∙◌, subst, arith, ⊎_elim, Memory, Registers, Cop0, Run, Access, Meets, Goal, Calls, calls, kernel_words, Fair, fair, Part, Anew, Count, counted, run, Entry, Sorted, ended, Calling, [], ◌∷◌, Tree}
-use Rattle.std.specs.Prelude.{nat_lt, nat_eq}
+use Rattle.std.specs.Prelude.{nat_lt}
 use Rattle.std.proofs.lemmas.Bool.{cases_lt, lt-ltb}
 use Rattle.psx_cpu.specs.Words.{truth}
 use Rattle.psx_flow.proofs.Sound.{sound, anew}
 use Rattle.psx_flow.proofs.Rules.{meets_mono}
-use Rattle.psx_flow.proofs.Knows.{first_call, later_call}
+use Rattle.psx_flow.proofs.Knows.{first_call}
 use Rattle.kern_stay.specs.declared.room.TheConstants.{ROOM_NODES}
 use Rattle.kern_stay.specs.Room.{room, Given, GivesRoom}
 use Rattle.kern_stay.specs.Shared.{tree}
@@ -91,11 +91,4 @@ knows_room place ls = record {
   room = λ k c z m w q p h x. record {
     called = λ ok. first_call place (tree ROOM_NODES) ls c.r31 (Anew k) (run c z m w q p) refl (gives (calls kernel_words ls) (fair kernel_words ls) k place c z m w q p h ok x);
   };
-}
-
--- and behind a listing that stands elsewhere
-pub knows_room_behind : (place : ℕ) (l : ℕ × Tree) (ls : List (ℕ × Tree)) → nat_eq place l.0 ≡ false → KnowsRoom place (calls kernel_words ls) → KnowsRoom place (calls kernel_words (l ∷ ls))
-knows_room_behind place l ls far know = record {
-  fair = fair kernel_words (l ∷ ls);
-  room = λ k c z m w q p h x. record { called = λ ok. later_call place l ls c.r31 (Anew k) (run c z m w q p) far ((know.room k c z m w q p h x).called ok) };
 }

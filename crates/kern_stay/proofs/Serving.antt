@@ -1,5 +1,5 @@
 -- A call is served by a listing whose words stand at its address.
-use Rattle.std.proofs.Common.{◌≡◌, ℕ, ◌+◌, ◌*◌, ◌%◌, ◌^◌, ◌<◌, List, [], length, get_or, Bool, true, false, refl, sym, ap, ◌∙◌}
+use Rattle.std.proofs.Common.{◌≡◌, ℕ, ◌+◌, ◌*◌, ◌%◌, ◌^◌, ◌<◌, List, [], length, get_or, true, false, sym, ap, ◌∙◌}
 use Rattle.std.specs.Prelude.{nat_eq}
 use Rattle.std.proofs.lemmas.Bool.{false≢true}
 use Rattle.psx_base.specs.Memory.{Memory, word}
@@ -14,7 +14,7 @@ use Rattle.abs_kernel.specs.Stay.{Stay}
 use Rattle.kern_stay.specs.Doors.{IsServed, Serves}
 use Rattle.kern_stay.proofs.Standing.{is_code, placed_by}
 
-not_zero : (at : ℕ) → nat_eq at 0 ≡ false → at ≡ 0 → ⊥
+pub not_zero : (at : ℕ) → nat_eq at 0 ≡ false → at ≡ 0 → ⊥
 not_zero at h e = false≢true (sym h ∙ ap (λ n. nat_eq n 0) e)
 
 -- the five facts that stand in front compute for a listing that is given

@@ -24,10 +24,11 @@ pub record NamesBlocks (c : Registers) (from to count : ℕ) : Type 0 where
   pub high : (from + 4 * count ≤ 0x10000) × (to + 4 * count ≤ 0x10000)
   pub apart : (from + 4 * count ≤ to) ⊎ (to + 4 * count ≤ from)
 
--- the listing comes back
+-- the listing comes back, with r9 behind the last word that was written
 pub record Copied (s : Run) (from to count : ℕ) (at : ℕ) (e : Run) : Type 0 where
   pub back : at ≡ s.regs.r31
   pub regs : e.regs ≡ record s.regs { r8 = e.regs.r8; r9 = e.regs.r9; r12 = e.regs.r12 }
+  pub next : e.regs.r9 ≡ 0x80000000 + (to + 4 * count)
   pub cop0 : e.cop0 ≡ s.cop0
   pub words : WordsCopied s.bytes e.bytes from to count
   pub ports : ports e.seen ≡ ports s.seen

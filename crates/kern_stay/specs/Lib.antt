@@ -4,6 +4,7 @@ pub mod Shared
 pub mod Words
 pub mod Doors
 pub mod Loops
+pub mod Stages
 pub mod Copy
 pub mod CopyHalf
 pub mod Switch

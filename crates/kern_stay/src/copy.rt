@@ -9,7 +9,7 @@ ghost use Rattle.kern_stay.specs.Switch.{Switches};
 
 use psx_flow::{Node, Test, op, register};
 
-/// r8 is where the words are, r10 where they end, r9 where they go to. r12 is changed.
+/// r8 is where the words are, r10 where they end, r9 where they go to, which goes on behind the last one. r12 is changed.
 pub const COPY_NODES: [Node; 7] = [
     Node::While(Test::Differ(register!(r8), register!(r10))),
     op!(LW r12, 0(r8)),

@@ -40,18 +40,18 @@ fn put_lowered(block: &mut KernelBlock, at: u32, nodes: &[Node], words: &mut [u3
     put_words(block, at - CACHED, words);
 }
 
-/// Sets the words of a listing of at most 64 words, which runs at an address of the cached segment.
+/// Sets the words of a listing of at most 80 words, which runs at an address of the cached segment.
 pub fn put_listing(block: &mut KernelBlock, at: u32, nodes: &[Node])
     requires well { IsTrue (is_well nodes.now) }
     requires spaced { IsTrue (is_spaced nodes.now) }
     requires few { length nodes.now < 2 ^ 31 }
     requires aligned { at % 4 ≡ 0 }
     requires cached { (0x80000000 ≤ at) × (at + 4 * size (tree nodes.now) ≤ 0x80010000) }
-    requires room { size (tree nodes.now) ≤ 64 }
+    requires room { size (tree nodes.now) ≤ 80 }
     requires reach { IsTrue (reaches (tree nodes.now) at) }
     ensures { (f : ℕ → ℕ) → IsBlock block.old f → IsBlock block.new (overlaid (listing at nodes.now ∷ []) f) }
 {
-    let mut words = [0u32; 64];
+    let mut words = [0u32; 80];
     let size = size_of(nodes) as usize;
     put_lowered(block, at, nodes, &mut words[..size]);
 }
