@@ -1,0 +1,9 @@
+pub mod Own
+pub mod PrintfWords
+pub mod Texts
+pub mod Walking
+pub mod Taking
+pub mod Writing
+pub mod Interfaces
+pub mod Parts
+pub mod PrintfLaws
