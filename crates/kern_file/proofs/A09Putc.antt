@@ -10,12 +10,12 @@ use Rattle.abs_kernel.specs.declared.calls.CallId.TheVariants.{A09}
 use Rattle.abs_kernel.specs.Calls.{call}
 use Rattle.kern_stay.specs.Shared.{tree, tested_there}
 use Rattle.kern_stay.specs.Doors.{Through, Serves, called_with, begun, most_steps}
-use Rattle.kern_stay.proofs.Ending.{low_byte, through, answers}
+use Rattle.kern_stay.proofs.Ending.{low_byte, through, through_as, answers}
 use Rattle.kern_stay.proofs.Passing.{answers_now}
 use Rattle.kern_stay.proofs.RoomGiven.{true_then, false_then}
 use Rattle.kern_file.specs.declared.places.TheConstants.{PUTC}
 use Rattle.kern_file.specs.declared.a09_putc.TheConstants.{NODES}
-use Rattle.kern_file.proofs.FilesHeld.{at_file, mode_is, none_from_16, writable, unwritable, holds_errno, through_as}
+use Rattle.kern_file.proofs.FilesHeld.{at_file, mode_is, none_from_16, writable, unwritable, holds_errno}
 
 pub serves : Serves [] most_steps (call A09) PUTC (tree NODES)
 serves s d z m h =

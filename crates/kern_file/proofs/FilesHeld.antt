@@ -101,8 +101,3 @@ holds_file s valid m h n v f lt fit is =
       reads = reads_free t valid_t (put (word m) p v) (word x) (byte x) (byte x) (λ a lo up. refl) (λ a al lo up. stored a al) (λ a al lo up. stored a al) (λ a al lo up. stored a al) r;
       user = λ a u. (let high = user_high a u in byte-put_word_apart m p v a (apart_above p 4 a (omega (arith, high, lt)))) ∙ h.user a u;
     }
-
--- ---- a stay that is another by what memory has
-
-pub through_as : (stay now : Stay) (most to : ℕ) (e : Run) → stay ≡ now → Through now most to e → Through stay most to e
-through_as stay now most to e is h = subst (λ y. Through y most to e) (sym is) h

@@ -181,10 +181,10 @@ waiting_serves m r = (
       (
         inl (getc_served m r),
         (
-          inr (read_served m r),
+          inr (inl (read_served m r)),
           (
-            inr (read_served m r),
-            (inr (gets_served m r), (inr (gets_served m r), tt)),
+            inr (inl (read_served m r)),
+            (inr (inl (gets_served m r)), (inr (inl (gets_served m r)), tt)),
           ),
         ),
       ),
@@ -196,11 +196,11 @@ pub file_serves : FileServes
 file_serves m r = (
   inl (putchar_served m r),
   (
-    inr (puts_served m r),
+    inr (inl (puts_served m r)),
     (
       inl (putchar_served m r),
       (
-        inr (puts_served m r),
+        inr (inl (puts_served m r)),
         (
           inl (get_last_error_served m r),
           (
@@ -212,9 +212,9 @@ file_serves m r = (
                 (
                   inl (close_served m r),
                   (
-                    inr (write_served m r),
+                    inr (inl (write_served m r)),
                     (
-                      inr (write_served m r),
+                      inr (inl (write_served m r)),
                       (
                         inl (open_file_served m r),
                         (inl (open_file_served m r), waiting_serves m r),

@@ -1,5 +1,5 @@
 -- What strtol, atoi and abs come to on numbers (PSX-SPX, Kernel (BIOS), Number/String/Character conversion).
-use Rattle.std.specs.Prelude.{◌≡◌, ◌≢◌, ℕ, ◌+◌, ◌^◌, ◌<◌, ◌≤◌, Bool, false, nat_lt, List, [], ◌∷◌, if◌then◌else◌}
+use Rattle.std.specs.Prelude.{◌≡◌, ℕ, ◌+◌, ◌-◌, ◌%◌, ◌^◌, ◌<◌, ◌≤◌, ◌⊎◌, Bool, false, nat_lt, List, [], ◌∷◌, if◌then◌else◌}
 use Rattle.psx_base.specs.KernelState.{KernelState}
 use Rattle.abs_kernel.specs.Stay.{Stay}
 use Rattle.abs_kernel.specs.Answered.{registers_of}
@@ -21,11 +21,24 @@ written capitals (d ∷ ds) = digit_byte capitals d ∷ written capitals ds
 abbrev pub AnswersBy : Stay → (value : ℕ) → Type 0
 AnswersBy stay value = (t : KernelState) × ((played stay []).end ≡ Returned t) × ((registers_of t).r2 ≡ value)
 
--- strtol of the numeral of a word answers the word, in each base but 16, in which a first 0 may begin a prefix
+-- a text as it is, or behind a minus sign
+abbrev pub with_sign : (minus : Bool) → (text : List ℕ) → List ℕ
+with_sign minus text = if minus then 0x2D ∷ text else text
+
+-- the word that stands for a number then
+abbrev pub signed_word : (minus : Bool) → (n : ℕ) → ℕ
+signed_word minus n = if minus then (2 ^ 32 - n) % 2 ^ 32 else n
+
+-- strtol of the numeral of a word answers the word, in each base; behind a minus sign 2 ^ 32 less the word
 abbrev pub StrtolReadsNumerals : Type 0
-StrtolReadsNumerals = (s : KernelState) (capitals : Bool) (base n : ℕ) → let r = registers_of s in
-    2 ≤ base → base ≤ 36 → base ≢ 16 → n < 2 ^ 32 → r.r5 ≡ 0 → r.r6 ≡ base → TextAt s.memory r.r4 (written capitals (numeral base n)) → AnswersBy (strtol s) n
+StrtolReadsNumerals = (s : KernelState) (minus capitals : Bool) (base n : ℕ) → let r = registers_of s in
+    2 ≤ base → base ≤ 36 → n < 2 ^ 32 → r.r5 ≡ 0 → r.r6 ≡ base → TextAt s.memory r.r4 (with_sign minus (written capitals (numeral base n))) → AnswersBy (strtol s) (signed_word minus n)
+
+-- and so in base 16 or by the prefix alone, where the hexadecimal numeral stands behind 0x or 0X
+abbrev pub StrtolReadsPrefixed : Type 0
+StrtolReadsPrefixed = (s : KernelState) (minus capitals : Bool) (x n : ℕ) → let r = registers_of s in
+    (r.r6 ≡ 0) ⊎ (r.r6 ≡ 16) → (x ≡ 0x58) ⊎ (x ≡ 0x78) → n < 2 ^ 32 → r.r5 ≡ 0 → TextAt s.memory r.r4 (with_sign minus (0x30 ∷ x ∷ written capitals (numeral 16 n))) → AnswersBy (strtol s) (signed_word minus n)
 
 -- and atoi that of a decimal one
 abbrev pub AtoiReadsDecimals : Type 0
-AtoiReadsDecimals = (s : KernelState) (n : ℕ) → n < 2 ^ 32 → TextAt s.memory (registers_of s).r4 (written false (numeral 10 n)) → AnswersBy (atoi s) n
+AtoiReadsDecimals = (s : KernelState) (minus : Bool) (n : ℕ) → n < 2 ^ 32 → TextAt s.memory (registers_of s).r4 (with_sign minus (written false (numeral 10 n))) → AnswersBy (atoi s) (signed_word minus n)

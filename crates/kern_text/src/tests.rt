@@ -25,7 +25,7 @@ use crate::laws::{
     no_text_is_as_long_as_the_definitions_go_on, strcmp_answers_0_for_equal_texts_alone,
     strlen_counts_the_bytes_before_the_zero,
 };
-use crate::number_laws::{atoi_reads_decimals, strtol_reads_numerals};
+use crate::number_laws::{atoi_reads_decimals, strtol_reads_numerals, strtol_reads_prefixed};
 use crate::place;
 use crate::placing::{apart, text_serves};
 use crate::prefix::prefix;
@@ -155,5 +155,6 @@ fn laws_do_nothing() {
     no_text_is_as_long_as_the_definitions_go_on();
     tokens();
     strtol_reads_numerals();
+    strtol_reads_prefixed();
     atoi_reads_decimals();
 }
