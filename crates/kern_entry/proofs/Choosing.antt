@@ -1,13 +1,13 @@
 -- CAUSES: from Cause and EPC to the listing of the entrance.
 use Rattle.psx_flow.proofs.Kit.{◌≡◌, ℕ, ◌+◌, ◌*◌, ◌%◌, ◌^◌, ◌<◌, ◌≤◌, true, false, refl, sym, ap, ◌∙◌, subst, arith, Memory, Registers, Cop0, Run, Access, Meets, calls, kernel_words, fair, start, place}
 use Rattle.std.proofs.Common.{Bool, List, [], ◌/◌, Option, None, ne_eqb}
-use Rattle.std.specs.Prelude.{if◌then◌else◌, nat_eq}
+use Rattle.std.specs.Prelude.{if◌then◌else◌}
 use Rattle.psx_base.specs.declared.address.Gate.{Gate}
 use Rattle.psx_base.specs.Addresses.{is_mirrored, low, gate_at, gate_of}
 use Rattle.psx_base.specs.Items.{Entrance, ByA, ByB, ByC, BySyscall, ByInterrupt, ByDone, ByBack, ByTrap}
 use Rattle.psx_base.specs.Entrances.{entrance, by_syscall}
 use Rattle.psx_cpu.specs.Exceptions.{cause_of}
-use Rattle.kern_entry.specs.declared.places.TheConstants.{CAUSES, CALL_A, CALL_B, CALL_C, SYSCALLS, EXCEPTION, DONE, BACK}
+use Rattle.kern_entry.specs.declared.places.TheConstants.{CAUSES, CALL_A, CALL_B, CALL_C, SYSCALLS, EXCEPTION, DONE, BACK, INTERRUPTS}
 use Rattle.kern_entry.specs.declared.save.TheConstants.{CAUSES_NODES}
 use Rattle.kern_entry.specs.EntryWords.{tree}
 use Rattle.kern_entry.proofs.WorkArea.{AreaEntered, entered_on}
@@ -18,7 +18,7 @@ arrival ByA = CALL_A
 arrival ByB = CALL_B
 arrival ByC = CALL_C
 arrival BySyscall = SYSCALLS
-arrival ByInterrupt = EXCEPTION
+arrival ByInterrupt = INTERRUPTS
 arrival ByDone = DONE
 arrival ByBack = BACK
 arrival ByTrap = EXCEPTION
@@ -43,11 +43,12 @@ is_in_slot code true line h le = refl
 is_in_slot code false true h le = absurd (omega arith)
 is_in_slot code false false h le = absurd (omega arith)
 
--- another code than 8
-other_code : (code : ℕ) (slot : Bool) (epc : ℕ) → (code ≡ 8 → ⊥) → EXCEPTION ≡ arrival (entrance code slot epc)
-other_code code slot epc ne =
-    let go : (b : Bool) → EXCEPTION ≡ arrival (if b then ByInterrupt else ByTrap) = λ b. elim b as (λ x. EXCEPTION ≡ arrival (if x then ByInterrupt else ByTrap)) [ true ↦ refl | false ↦ refl ] in
-    go (nat_eq code 0) ∙ sym (ap (λ b. arrival (if nat_eq code 0 then ByInterrupt else (if b then by_syscall slot (gate_of epc) else ByTrap))) (ne_eqb code 8 ne))
+-- an interrupt, and another code than 8
+of_interrupt : (code : ℕ) (slot : Bool) (epc : ℕ) → code ≡ 0 → INTERRUPTS ≡ arrival (entrance code slot epc)
+of_interrupt code slot epc e = sym (ap (λ n. arrival (entrance n slot epc)) e)
+
+other_code : (code : ℕ) (slot : Bool) (epc : ℕ) → (code ≡ 8 → ⊥) → (code ≡ 0 → ⊥) → EXCEPTION ≡ arrival (entrance code slot epc)
+other_code code slot epc ne some = sym (λ i. arrival (if ne_eqb code 0 some i then ByInterrupt else (if ne_eqb code 8 ne i then by_syscall slot (gate_of epc) else ByTrap)))
 
 in_slot : (code : ℕ) (slot : Bool) (epc : ℕ) → code ≡ 8 → slot ≡ true → EXCEPTION ≡ arrival (entrance code slot epc)
 in_slot code slot epc e s = sym (ap (λ n. arrival (entrance n slot epc)) e ∙ ap (λ b. arrival (by_syscall b (gate_of epc))) s)
@@ -84,7 +85,10 @@ causes_meets c code slot z on m p most more s h cause small mirror few =
     let within = h.holds.within in
     let epc : s.cop0.epc ≡ z.epc = ap (λ x. x.epc) h.cop0 in
     start (calls kernel_words []) (fair kernel_words []) (tree CAUSES_NODES) CAUSES (λ _. ⊥) G s (λ line. (
-      λ ne. (other_code code slot z.epc (λ e. ne (coded line ∙ e)), on_to _ _ _ _ refl refl refl refl (refl, refl, refl, refl) refl (omega arith)),
+      λ ne. (
+        λ none. (of_interrupt code slot z.epc (sym (coded line) ∙ none), on_to _ _ _ _ refl refl refl refl (refl, refl, refl, refl) refl (omega arith)),
+        λ some. (other_code code slot z.epc (λ e. ne (coded line ∙ e)) (λ e. some (coded line ∙ e)), on_to _ _ _ _ refl refl refl refl (refl, refl, refl, refl) refl (omega arith)),
+      ),
       λ is. (
         λ neg. (in_slot code slot z.epc (sym (coded line) ∙ is) (is_in_slot code slot line small (subst (λ x. 2 ^ 31 ≤ x) (reads line) neg)), on_to _ _ _ _ refl refl refl refl (refl, refl, refl, refl) refl (omega arith)),
         λ pos.

@@ -8,19 +8,19 @@ use Rattle.psx_cpu.specs.Processor.{Cop0}
 use Rattle.psx_flow.specs.Run.{Run}
 use Rattle.psx_flow.specs.Kernel.{kernel_words}
 use Rattle.psx_flow.specs.Reaches.{Keeps}
-use Rattle.psx_base.specs.declared.stop.Stop.TheVariants.{Exit, BadPointer, BadThread, Deep}
+use Rattle.psx_base.specs.declared.stop.Stop.TheVariants.{Exit, BadPointer, BadThread, BadReturn, Deep}
 use Rattle.abs_kernel.specs.Stay.{Stay, Return, Halt}
 use Rattle.abs_kernel.specs.Exits.{exits}
 use Rattle.kern_stay.specs.Doors.{called_with}
 use Rattle.kern_entry.specs.declared.places.TheConstants.{EXIT}
 use Rattle.kern_entry.specs.Within.{Aim}
 use Rattle.kern_entry.specs.Made.{Made}
-use Rattle.abs_kernel.specs.Answered.{with_running, with_answer}
-use Rattle.kern_entry.specs.EntryLaws.{KeepsRest, HoldsContext, LeaveReturns, WaitReturns, WorkReturns, BadPointerStops, BadThreadStops, DeepStops, OwnCalls}
+use Rattle.abs_kernel.specs.Answered.{with_answer}
+use Rattle.kern_entry.specs.EntryLaws.{KeepsRest, HoldsContext, LeaveReturns, WaitReturns, BadPointerStops, BadThreadStops, BadReturnStops, DeepStops, OwnCalls}
 use Rattle.kern_entry.proofs.WorkArea.{AreaHolds}
 use Rattle.kern_entry.proofs.Placed.{all_placed}
 use Rattle.kern_entry.proofs.Returning.{back_to}
-use Rattle.kern_entry.proofs.Stages.{leave_shown, work_shown, resume_shown, bad_pointer_shown, bad_thread_shown, deep_shown, exit_shown}
+use Rattle.kern_entry.proofs.Stages.{leave_shown, resume_shown, bad_pointer_shown, bad_thread_shown, bad_return_shown, deep_shown, exit_shown}
 
 -- a context with nothing pending, taken up at an address
 taken_back : (x : Context) (at : ℕ) → x.pending ≡ None → taken x at ≡ back_to x.regs at
@@ -44,17 +44,6 @@ leave_returns regs z m t s off h is =
       follows = tt;
       is = refl;
       context = ap (λ y. y.context) is ∙ ap (λ y. with_answer y regs.r2) (taken_back x x.regs.r31 h.settled);
-      interrupts = ap (λ y. y.interrupts) is;
-    }) 72 (omega arith)
-
-pub work_returns : WorkReturns
-work_returns regs z m t s off h is =
-    let x : Context = t.context in
-    work_shown m (all_placed m h.words) (Return s) (Made m (Return s)) (λ k q y. y) x.regs x.pc t.interrupts [] (begun regs z m) (keeps regs z m off) (holds regs z m t h) (record {
-      state = s;
-      follows = tt;
-      is = refl;
-      context = ap (λ y. y.context) is ∙ taken_back x x.pc h.settled;
       interrupts = ap (λ y. y.interrupts) is;
     }) 72 (omega arith)
 
@@ -83,6 +72,13 @@ bad_thread_stops regs z m u t off h =
     let stay : Stay = Halt (BadThread regs.r8 x.regs.r31) u in
     bad_thread_shown m (all_placed m h.words) stay (Made m stay) (λ k q y. y) x.regs x.pc t.interrupts [] regs.r8 (begun regs z m) (keeps regs z m off) (holds regs z m t h) refl
     (record { stop = BadThread regs.r8 x.regs.r31; memory = u; follows = ((tt, refl), refl); is = refl; stops = λ a b c. refl }) 72 (omega arith)
+
+pub bad_return_stops : BadReturnStops
+bad_return_stops regs z m u t off h =
+    let x : Context = t.context in
+    let stay : Stay = Halt (BadReturn x.regs.r31) u in
+    bad_return_shown m (all_placed m h.words) stay (Made m stay) (λ k q y. y) x.regs x.pc t.interrupts [] (begun regs z m) (keeps regs z m off) (holds regs z m t h)
+    (record { stop = BadReturn x.regs.r31; memory = u; follows = (tt, refl); is = refl; stops = λ a b c. refl }) 72 (omega arith)
 
 pub deep_stops : DeepStops
 deep_stops regs z m u off h =

@@ -7,8 +7,8 @@ use Rattle.psx_flow.specs.Told.{ports}
 use Rattle.psx_flow.proofs.Log.{KernelWord}
 use Rattle.kern_layout.specs.Fields.{Block}
 use Rattle.kern_layout.specs.Contexts.{saved, saved_sr_of}
-use Rattle.kern_entry.specs.declared.places.TheConstants.{LEAVE, BEHIND, RESUME, WORK}
-use Rattle.kern_entry.specs.declared.leave.TheConstants.{LEAVE_NODES, BEHIND_NODES, RESUME_NODES, WORK_NODES}
+use Rattle.kern_entry.specs.declared.places.TheConstants.{LEAVE, BEHIND, RESUME}
+use Rattle.kern_entry.specs.declared.leave.TheConstants.{LEAVE_NODES, BEHIND_NODES, RESUME_NODES}
 use Rattle.kern_entry.specs.EntryWords.{tree}
 use Rattle.kern_entry.specs.Made.{Spared}
 use Rattle.kern_entry.proofs.WorkArea.{held, AreaHolds, applied_spared, spared_then, area_put, area_r31, area_pc, area_sr, area_loaded}
@@ -64,12 +64,6 @@ module _ (c : Registers) (pc : ℕ) (on : Bool) (m : Memory) (p : List Access) (
           within = omega arith;
         },
       )
-
-  pub work_meets : Meets kernel_words (calls kernel_words []) (tree WORK_NODES) WORK (λ _. ⊥) (λ to e. (to ≡ RESUME) × AreaHolds c pc on m p more e) s
-  work_meets =
-      let within = h.within in
-      start (calls kernel_words []) (fair kernel_words []) (tree WORK_NODES) WORK (λ _. ⊥) (λ to e. (to ≡ RESUME) × AreaHolds c pc on m p more e) s
-      (refl, record { area = h.area; spared = h.spared; ports = h.ports; within = omega arith })
 
   pub resume_meets : most + 45 ≤ more → Meets kernel_words (calls kernel_words []) (tree RESUME_NODES) RESUME (λ e. Resumed c pc on m p more e) (λ _ _. ⊥) s
   resume_meets many =

@@ -1,17 +1,15 @@
 -- The last two words: the jump to k0, and the return from the exception in its slot.
-use Rattle.std.proofs.Common.{◌≡◌, ℕ, suc, ◌+◌, ◌/◌, ◌%◌, ◌^◌, List, [], ◌∷◌, Bool, true, false, Some, None, refl, ap, ◌∙◌, arith, eq-eqb, ne_eqb}
-use Rattle.std.specs.Prelude.{nat_eq, if◌then◌else◌}
+use Rattle.std.proofs.Common.{◌≡◌, ℕ, suc, ◌+◌, ◌%◌, ◌^◌, List, [], ◌∷◌, Bool, true, false, Some, None, refl, ap, ◌∙◌}
 use Rattle.psx_ins.specs.declared.ins.Ins.TheVariants.{JR, RFE}
 use Rattle.psx_ins.specs.Decoding.{instruction_of}
 use Rattle.psx_base.specs.Memory.{Memory}
 use Rattle.psx_base.specs.Registers.{Registers}
 use Rattle.psx_base.specs.Context.{Context}
-use Rattle.psx_cpu.specs.Processor.{Core, State, Bus, Processor}
+use Rattle.psx_cpu.specs.Processor.{Core, State, Bus}
 use Rattle.psx_cpu.specs.DataAccess.{read_word}
 use Rattle.psx_cpu.specs.Effect.{effect}
-use Rattle.psx_cpu.specs.Exceptions.{leave, left_sr, takes_interrupt}
-use Rattle.psx_cpu.specs.Guard.{guard, guard_word}
-use Rattle.psx_cpu.specs.Step.{Stops, Leaves, entered, passed, step}
+use Rattle.psx_cpu.specs.Exceptions.{leave, left_sr}
+use Rattle.psx_cpu.specs.Step.{Leaves, step}
 use Rattle.psx_cpu.proofs.KernelSide.{step_executes}
 use Rattle.psx_flow.specs.Run.{Run, Access, state_at}
 use Rattle.psx_flow.specs.Plain.{kernel_core}

@@ -8,13 +8,13 @@ use Rattle.psx_flow.specs.Told.{ports}
 use Rattle.psx_flow.proofs.Log.{KernelWord}
 use Rattle.kern_layout.specs.Fields.{Block}
 use Rattle.kern_layout.specs.Contexts.{saved, saved_sr_of}
-use Rattle.kern_entry.specs.declared.places.TheConstants.{UNSERVED, EXCEPTION, EXIT, DONE, BACK, SYSCALLS, LEAVE, BEHIND, BAD_POINTER, BAD_THREAD, DEEP}
+use Rattle.kern_entry.specs.declared.places.TheConstants.{UNSERVED, EXCEPTION, EXIT, DONE, SYSCALLS, DELIVER, BEHIND, BAD_POINTER, BAD_THREAD, DEEP, BAD_RETURN}
 use Rattle.kern_entry.specs.declared.calls.TheConstants.{EXIT_NODES}
-use Rattle.kern_entry.specs.declared.stops.TheConstants.{UNSERVED_NODES, EXCEPTION_NODES, DONE_NODES, BACK_NODES, BAD_POINTER_NODES, BAD_THREAD_NODES, DEEP_NODES}
+use Rattle.kern_entry.specs.declared.stops.TheConstants.{UNSERVED_NODES, EXCEPTION_NODES, DONE_NODES, BAD_POINTER_NODES, BAD_THREAD_NODES, DEEP_NODES, BAD_RETURN_NODES}
 use Rattle.kern_entry.specs.declared.sys.TheConstants.{SYSCALLS_NODES}
 use Rattle.kern_entry.specs.EntryWords.{tree}
 use Rattle.kern_entry.specs.Made.{Spared}
-use Rattle.kern_entry.proofs.WorkArea.{held, AreaHolds, AreaEntered, holds_on, applied_spared, spared_then, area_put, area_sr, area_r31}
+use Rattle.kern_entry.proofs.WorkArea.{held, entered_on, AreaHolds, AreaEntered, holds_on, applied_spared, spared_then, area_put, area_sr, area_r31}
 use Rattle.kern_entry.proofs.Choosing.{code_is}
 
 -- the last access writes a code to the halt port, behind these to ports
@@ -44,12 +44,6 @@ module _ (c : Registers) (z : Cop0) (on : Bool) (m : Memory) (p : List Access) (
       let within = h.holds.within in
       start (calls kernel_words []) (fair kernel_words []) (tree DONE_NODES) DONE (λ _. ⊥) (λ to e. Exits c.r2 c z.epc on m p more to e) s
       (record { to_is = refl; holds = holds_on c z.epc on m p most more s h.holds _ _ _ _ _ refl (omega arith); value_is = h.r2 })
-
-  pub back_meets : Meets kernel_words (calls kernel_words []) (tree BACK_NODES) BACK (λ e. Stops 7 (PortWrite HALT_A c.r31 ∷ p) m more e) (λ _ _. ⊥) s
-  back_meets =
-      let within = h.holds.within in
-      start (calls kernel_words []) (fair kernel_words []) (tree BACK_NODES) BACK (λ e. Stops 7 (PortWrite HALT_A c.r31 ∷ p) m more e) (λ _ _. ⊥) s
-      (record { rest = _; seen = refl; told = (λ i. PortWrite HALT_A (h.r31 i) ∷ h.holds.ports i); spared = h.holds.spared; within = omega arith })
 
   pub unserved_meets : (table : ℕ) → s.regs.r10 ≡ table
       → Meets kernel_words (calls kernel_words []) (tree UNSERVED_NODES) UNSERVED (λ e. Stops 3 (PortWrite HALT_C c.r31 ∷ PortWrite HALT_B c.r9 ∷ PortWrite HALT_A table ∷ p) m more e) (λ _ _. ⊥) s
@@ -91,20 +85,29 @@ module _ (c : Registers) (pc : ℕ) (on : Bool) (m : Memory) (p : List Access) (
       start (calls kernel_words []) (fair kernel_words []) (tree BAD_THREAD_NODES) BAD_THREAD (λ e. Stops 5 (PortWrite HALT_B c.r31 ∷ PortWrite HALT_A v ∷ p) m more e) (λ _ _. ⊥) s
       (record { rest = _; seen = refl; told = (λ i. PortWrite HALT_B (r31 i) ∷ PortWrite HALT_A (r8 i) ∷ h.ports i); spared = h.spared; within = omega arith })
 
+  -- the return of a function that the kernel hasn't called
+  pub bad_return_meets : Meets kernel_words (calls kernel_words []) (tree BAD_RETURN_NODES) BAD_RETURN (λ e. Stops 7 (PortWrite HALT_A c.r31 ∷ p) m more e) (λ _ _. ⊥) s
+  bad_return_meets =
+      let within = h.within in
+      let r31 = area_r31 s.bytes c pc on h.area in
+      start (calls kernel_words []) (fair kernel_words []) (tree BAD_RETURN_NODES) BAD_RETURN (λ e. Stops 7 (PortWrite HALT_A c.r31 ∷ p) m more e) (λ _ _. ⊥) s
+      (record { rest = _; seen = refl; told = (λ i. PortWrite HALT_A (r31 i) ∷ h.ports i); spared = h.spared; within = omega arith })
+
 -- ---- the SYSCALLs, by r4
 
 -- 1 where interrupts were on
 abbrev pub was_on : Bool → ℕ
 was_on on = if on then 1 else 0
 
-abbrev pub SysGoes : (number : ℕ) (c : Registers) (epc : ℕ) (on : Bool) (m : Memory) (p : List Access) (most to : ℕ) (e : Run) → Type 0
-SysGoes zero c epc on m p most to e = (to ≡ BEHIND) × AreaHolds c epc on m p most e
-SysGoes (suc zero) c epc on m p most to e = (to ≡ BEHIND) × AreaHolds (record c { r2 = was_on on }) epc false m p most e
-SysGoes (suc (suc zero)) c epc on m p most to e = (to ≡ BEHIND) × AreaHolds c epc true m p most e
-SysGoes (suc (suc (suc n))) c epc on m p most to e = ⊥
+abbrev pub SysGoes : (number : ℕ) (c : Registers) (z : Cop0) (on : Bool) (m : Memory) (p : List Access) (most to : ℕ) (e : Run) → Type 0
+SysGoes zero c z on m p most to e = (to ≡ BEHIND) × AreaHolds c z.epc on m p most e
+SysGoes (suc zero) c z on m p most to e = (to ≡ BEHIND) × AreaHolds (record c { r2 = was_on on }) z.epc false m p most e
+SysGoes (suc (suc zero)) c z on m p most to e = (to ≡ BEHIND) × AreaHolds c z.epc true m p most e
+SysGoes (suc (suc (suc zero))) c z on m p most to e = ⊥
+SysGoes (suc (suc (suc (suc n)))) c z on m p most to e = (to ≡ DELIVER) × AreaEntered c z on m p most e
 
 abbrev pub SysStops : (number : ℕ) (epc : ℕ) (m : Memory) (p : List Access) (most : ℕ) (e : Run) → Type 0
-SysStops (suc (suc (suc n))) epc m p most e = Stops 3 (PortWrite HALT_C epc ∷ PortWrite HALT_B (suc (suc (suc n))) ∷ PortWrite HALT_A 3 ∷ p) m most e
+SysStops (suc (suc (suc zero))) epc m p most e = Stops 3 (PortWrite HALT_C epc ∷ PortWrite HALT_B 3 ∷ PortWrite HALT_A 3 ∷ p) m most e
 SysStops _ epc m p most e = ⊥
 
 sr_bit : (on : Bool) → bit_and (saved_sr_of on / 2 ^ 2) 1 ≡ was_on on
@@ -113,13 +116,13 @@ sr_bit false = refl
 
 module _ (c : Registers) (z : Cop0) (on : Bool) (m : Memory) (p : List Access) (most more : ℕ) (s : Run) (h : AreaEntered c z on m p most s) (few : most + 30 ≤ more) where
   abbrev SysMeets : ℕ → Type 0
-  SysMeets n = Meets kernel_words (calls kernel_words []) (tree SYSCALLS_NODES) SYSCALLS (λ e. SysStops n z.epc m p more e) (λ to e. SysGoes n c z.epc on m p more to e) s
+  SysMeets n = Meets kernel_words (calls kernel_words []) (tree SYSCALLS_NODES) SYSCALLS (λ e. SysStops n z.epc m p more e) (λ to e. SysGoes n c z on m p more to e) s
 
   abbrev SysAsks : ℕ → Type 0
-  SysAsks n = Sym (calls kernel_words []) (tree SYSCALLS_NODES) SYSCALLS (ended (λ e. SysStops n z.epc m p more e)) (λ to e. SysGoes n c z.epc on m p more to e) s.regs s.cop0 s.bytes [] s.seen (counted s)
+  SysAsks n = Sym (calls kernel_words []) (tree SYSCALLS_NODES) SYSCALLS (ended (λ e. SysStops n z.epc m p more e)) (λ to e. SysGoes n c z on m p more to e) s.regs s.cop0 s.bytes [] s.seen (counted s)
 
   sys_start : (n : ℕ) → SysAsks n → SysMeets n
-  sys_start n = start (calls kernel_words []) (fair kernel_words []) (tree SYSCALLS_NODES) SYSCALLS (λ e. SysStops n z.epc m p more e) (λ to e. SysGoes n c z.epc on m p more to e) s
+  sys_start n = start (calls kernel_words []) (fair kernel_words []) (tree SYSCALLS_NODES) SYSCALLS (λ e. SysStops n z.epc m p more e) (λ to e. SysGoes n c z on m p more to e) s
 
   -- SYSCALL 1: the answer and SR are stored
   off_area : (x : ℕ) → x ≡ was_on on → Block (word (put_word (put_word s.bytes 0xEB10 x) 0xEB94 0x400)) 0xEB00 (saved (held (record c { r2 = was_on on }) z.epc false))
@@ -170,21 +173,36 @@ module _ (c : Registers) (z : Cop0) (on : Bool) (m : Memory) (p : List Access) (
           ),
         ),
       )
-  sys_meets (suc (suc (suc n))) e =
+  sys_meets (suc (suc (suc zero))) e =
       let within = h.holds.within in
-      sys_start (suc (suc (suc n))) (
+      sys_start 3 (
         λ y. absurd (omega (arith, e, y)),
         λ _. (
           λ y. absurd (omega (arith, e, y)),
           λ _. (
             λ y. absurd (omega (arith, e, y)),
-            λ _. record {
-              rest = _;
-              seen = refl;
-              told = (λ i. PortWrite HALT_C ((h.cop0 i).epc) ∷ PortWrite HALT_B (e i) ∷ PortWrite HALT_A 3 ∷ h.holds.ports i);
-              spared = h.holds.spared;
-              within = omega arith;
-            },
+            λ _. (
+              λ ne. absurd (ne e),
+              λ _. record {
+                rest = _;
+                seen = refl;
+                told = (λ i. PortWrite HALT_C ((h.cop0 i).epc) ∷ PortWrite HALT_B (e i) ∷ PortWrite HALT_A 3 ∷ h.holds.ports i);
+                spared = h.holds.spared;
+                within = omega arith;
+              },
+            ),
+          ),
+        ),
+      )
+  sys_meets (suc (suc (suc (suc n)))) e =
+      let within = h.holds.within in
+      sys_start (suc (suc (suc (suc n)))) (
+        λ y. absurd (omega (arith, e, y)),
+        λ _. (
+          λ y. absurd (omega (arith, e, y)),
+          λ _. (
+            λ y. absurd (omega (arith, e, y)),
+            λ _. (λ _. (refl, entered_on c z on m p most more s h _ _ _ _ refl refl refl refl (refl, refl, refl, refl) refl (omega arith)), λ y. absurd (omega (arith, e, y))),
           ),
         ),
       )

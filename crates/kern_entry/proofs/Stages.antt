@@ -17,17 +17,17 @@ use Rattle.psx_flow.specs.Meets.{Goal, Meets, calls}
 use Rattle.psx_flow.specs.Reaches.{IsPlaced, Keeps}
 use Rattle.kern_layout.specs.Stands.{user_sr}
 use Rattle.abs_kernel.specs.Stay.{Stay, Return, Halt}
-use Rattle.kern_entry.specs.declared.places.TheConstants.{LEAVE, BEHIND, RESUME, WORK, EXIT, DONE, BACK, UNSERVED, EXCEPTION, BAD_POINTER, BAD_THREAD, DEEP}
+use Rattle.kern_entry.specs.declared.places.TheConstants.{LEAVE, BEHIND, RESUME, EXIT, DONE, UNSERVED, EXCEPTION, BAD_POINTER, BAD_THREAD, DEEP, BAD_RETURN}
 use Rattle.kern_entry.specs.declared.calls.TheConstants.{EXIT_NODES}
-use Rattle.kern_entry.specs.declared.stops.TheConstants.{UNSERVED_NODES, EXCEPTION_NODES, DONE_NODES, BACK_NODES, BAD_POINTER_NODES, BAD_THREAD_NODES, DEEP_NODES}
-use Rattle.kern_entry.specs.declared.leave.TheConstants.{LEAVE_NODES, BEHIND_NODES, RESUME_NODES, WORK_NODES, RETURN}
+use Rattle.kern_entry.specs.declared.stops.TheConstants.{UNSERVED_NODES, EXCEPTION_NODES, DONE_NODES, BAD_POINTER_NODES, BAD_THREAD_NODES, DEEP_NODES, BAD_RETURN_NODES}
+use Rattle.kern_entry.specs.declared.leave.TheConstants.{LEAVE_NODES, BEHIND_NODES, RESUME_NODES, RETURN}
 use Rattle.kern_entry.specs.EntryWords.{tree}
 use Rattle.kern_entry.specs.Within.{Aim, Within}
 use Rattle.kern_entry.specs.Made.{after, Follows, given, IsBack, Leaving, Returned, Halted, Spared, Made}
 use Rattle.kern_entry.proofs.Walk.{walk_placed, within_backs, within_here}
 use Rattle.kern_entry.proofs.WorkArea.{AreaHolds, AreaEntered}
-use Rattle.kern_entry.proofs.Routines.{Stops, Exits, exit_meets, done_meets, back_meets, unserved_meets, exception_meets, bad_pointer_meets, bad_thread_meets, deep_meets}
-use Rattle.kern_entry.proofs.Leaving.{Resumed, leave_meets, behind_meets, work_meets, resume_meets}
+use Rattle.kern_entry.proofs.Routines.{Stops, Exits, exit_meets, done_meets, unserved_meets, exception_meets, bad_pointer_meets, bad_thread_meets, deep_meets, bad_return_meets}
+use Rattle.kern_entry.proofs.Leaving.{Resumed, leave_meets, behind_meets, resume_meets}
 use Rattle.kern_entry.proofs.Returning.{back_to, Back, return_from}
 use Rattle.kern_stay.proofs.Telling.{after_ports, follows_ports, given_ports}
 use Rattle.kern_entry.proofs.Placed.{AllPlaced}
@@ -133,9 +133,6 @@ module _ (m : Memory) (all : AllPlaced m) (stay : Stay) (Z : Aim) (aimed : (k : 
   pub behind_shown : (c : Registers) (pc : ℕ) (on : Bool) (p : List Access) (s : Run) → Keep s → AreaHolds c pc on m p 130 s → Returns stay c ((pc + 4) % 2 ^ 32) on p → Show s BEHIND
   behind_shown c pc on p s ks h r = to_resume (tree BEHIND_NODES) BEHIND c ((pc + 4) % 2 ^ 32) on p s all.behind ks r (behind_meets c pc on m p 130 150 s h (omega arith))
 
-  pub work_shown : (c : Registers) (pc : ℕ) (on : Bool) (p : List Access) (s : Run) → Keep s → AreaHolds c pc on m p 130 s → Returns stay c pc on p → Show s WORK
-  work_shown c pc on p s ks h r = to_resume (tree WORK_NODES) WORK c pc on p s all.work ks r (work_meets c pc on m p 130 150 s h (omega arith))
-
   -- ---- the routines
 
   pub exit_shown : (c : Registers) (pc : ℕ) (on : Bool) (p : List Access) (v : ℕ) (s : Run) → Keep s → AreaHolds c pc on m p 130 s → s.regs.r4 ≡ v → HaltsBy stay 1 (PortWrite HALT_A v ∷ p) → Show s EXIT
@@ -149,9 +146,6 @@ module _ (m : Memory) (all : AllPlaced m) (stay : Stay) (Z : Aim) (aimed : (k : 
       where
         low : (e : Run) → AreaHolds c z.epc on m p 130 e → e.steps ≤ 200
         low e x = omega (arith, x.within)
-
-    pub back_shown : HaltsBy stay 7 (PortWrite HALT_A c.r31 ∷ p) → Show s BACK
-    back_shown stop = stops_here (tree BACK_NODES) BACK 7 (PortWrite HALT_A c.r31 ∷ p) s all.back ks stop (back_meets c z on m p 100 200 s h (omega arith))
 
     pub unserved_shown : (table : ℕ) → s.regs.r10 ≡ table → HaltsBy stay 3 (PortWrite HALT_C c.r31 ∷ PortWrite HALT_B c.r9 ∷ PortWrite HALT_A table ∷ p) → Show s UNSERVED
     unserved_shown table e stop =
@@ -171,3 +165,7 @@ module _ (m : Memory) (all : AllPlaced m) (stay : Stay) (Z : Aim) (aimed : (k : 
 
   pub deep_shown : (p : List Access) (v : ℕ) (s : Run) → Keep s → Spared m s.bytes → ports s.seen ≡ p → s.steps ≤ 130 → s.regs.r31 ≡ v → HaltsBy stay 6 (PortWrite HALT_A v ∷ p) → Show s DEEP
   deep_shown p v s ks spared told few e stop = stops_here (tree DEEP_NODES) DEEP 6 (PortWrite HALT_A v ∷ p) s all.deep ks stop (deep_meets m p v 200 s spared told e (omega (arith, few)))
+
+  pub bad_return_shown : (c : Registers) (pc : ℕ) (on : Bool) (p : List Access) (s : Run) → Keep s → AreaHolds c pc on m p 130 s → HaltsBy stay 7 (PortWrite HALT_A c.r31 ∷ p) → Show s BAD_RETURN
+  bad_return_shown c pc on p s ks h stop =
+      stops_here (tree BAD_RETURN_NODES) BAD_RETURN 7 (PortWrite HALT_A c.r31 ∷ p) s all.bad_return ks stop (bad_return_meets c pc on m p 130 200 s h (omega arith))

@@ -1,11 +1,11 @@
 -- From the vector on each stay is made: by its entrance, and a call by its row.
 use Rattle.std.proofs.Common.{◌≡◌, ℕ, zero, suc, ◌+◌, ◌-◌, ◌*◌, ◌%◌, ◌^◌, ◌<◌, ◌≤◌, List, [], ◌∷◌, Bool, true, false, Option, Some, None, inl, inr, refl, sym, ap, ◌∙◌, subst, arith}
-use Rattle.std.specs.Prelude.{nat_eq, if◌then◌else◌, unwrap_or}
+use Rattle.std.specs.Prelude.{nat_eq, option_map, if◌then◌else◌, unwrap_or}
 use Rattle.std.proofs.lemmas.Bool.{lt-ltb, false≢true}
 use Rattle.psx_base.specs.declared.ports.TheConstants.{HALT_A, HALT_B, HALT_C}
 use Rattle.psx_base.specs.declared.stop.Table.{Table}
 use Rattle.psx_base.specs.declared.stop.Table.TheVariants.{A, B, C, Sys}
-use Rattle.psx_base.specs.declared.stop.Stop.TheVariants.{Exit, Exception, Unserved, BadReturn}
+use Rattle.psx_base.specs.declared.stop.Stop.TheVariants.{Exit, Exception, Unserved}
 use Rattle.psx_base.specs.Memory.{Memory, byte, word}
 use Rattle.psx_base.specs.Registers.{Registers}
 use Rattle.psx_base.specs.Context.{Context, settled, settle, epc_of, placed, taken}
@@ -30,26 +30,28 @@ use Rattle.abs_kernel.specs.declared.calls.CallId.{CallId}
 use Rattle.abs_kernel.specs.CallTable.{served_call}
 use Rattle.abs_kernel.specs.Cause.{entrance_of}
 use Rattle.abs_kernel.specs.Stay.{Stay}
-use Rattle.abs_kernel.specs.Answered.{with_running, with_answer}
-use Rattle.abs_kernel.specs.Sys.{with_interrupts, syscall}
-use Rattle.abs_kernel.specs.Calls.{call, by_row}
+use Rattle.abs_kernel.specs.Answered.{registers_of, with_running, with_answer}
+use Rattle.abs_kernel.specs.Interrupt.{interrupted, interrupts}
+use Rattle.abs_kernel.specs.Sys.{with_interrupts, sys_delivers, syscall}
+use Rattle.abs_kernel.specs.Calls.{by_row}
 use Rattle.abs_kernel.specs.KernelStep.{settled_state, by_entrance, stay_of}
-use Rattle.kern_entry.specs.declared.places.TheConstants.{VECTOR, SAVE, CAUSES, CALL_A, CALL_B, CALL_C, SYSCALLS, BEHIND, EXCEPTION}
+use Rattle.kern_entry.specs.declared.places.TheConstants.{VECTOR, SAVE, CAUSES, CALL_A, CALL_B, CALL_C, SYSCALLS, DELIVER, INTERRUPTS, BEHIND, EXCEPTION}
 use Rattle.kern_entry.specs.declared.save.TheConstants.{VECTOR_NODES, SAVE_NODES, CAUSES_NODES}
 use Rattle.kern_entry.specs.declared.calls.TheConstants.{CALL_A_NODES, CALL_B_NODES, CALL_C_NODES}
 use Rattle.kern_entry.specs.declared.sys.TheConstants.{SYSCALLS_NODES}
 use Rattle.kern_entry.specs.EntryWords.{tree}
+use Rattle.kern_stay.specs.Doors.{called_with}
 use Rattle.kern_entry.specs.Within.{Aim, Within}
 use Rattle.kern_entry.specs.Made.{Made}
 use Rattle.kern_entry.specs.Tables.{destination, TableAt, TablesRead}
-use Rattle.kern_entry.specs.EntryLaws.{KeepsRest, called_by, call_made, AtRoutine, Begins, StaysBegin, kernel_at}
+use Rattle.kern_entry.specs.EntryLaws.{KeepsRest, Routine, OfCall, OfBack, OfDelivery, OfInterrupt, stay_by, entered_by, place_by, routine_by, routine_of_entry, Begins, StaysBegin, kernel_at}
 use Rattle.kern_entry.proofs.WorkArea.{held, AreaHolds, AreaEntered}
 use Rattle.kern_entry.proofs.Saving.{Arrived, vector_meets, save_meets}
 use Rattle.kern_entry.proofs.Choosing.{arrival, causes_meets}
 use Rattle.kern_entry.proofs.Lookup.{Called, call_a_meets, call_b_meets, call_c_meets}
 use Rattle.kern_entry.proofs.Routines.{was_on, SysGoes, SysStops, sys_meets}
 use Rattle.kern_entry.proofs.Placed.{AllPlaced, all_placed}
-use Rattle.kern_entry.proofs.Stages.{Shown, walks, Returns, done_shown, back_shown, unserved_shown, exception_shown, behind_shown, stops_here}
+use Rattle.kern_entry.proofs.Stages.{Shown, walks, Returns, done_shown, unserved_shown, exception_shown, behind_shown, stops_here}
 use Rattle.kern_entry.proofs.Walk.{within_here}
 
 -- the table that a word of a halt names
@@ -82,18 +84,17 @@ further c pc on m p most more e le h = record { area = h.area; spared = h.spared
 further_in : (c : Registers) (z : Cop0) (on : Bool) (m : Memory) (p : List Access) (most more : ℕ) (e : Run) → most ≤ more → AreaEntered c z on m p most e → AreaEntered c z on m p more e
 further_in c z on m p most more e le h = record { holds = further c z.epc on m p most more e le h.holds; r2 = h.r2; r4 = h.r4; r9 = h.r9; r31 = h.r31; args = h.args; cop0 = h.cop0 }
 
--- the gates' calls are in no slot
-abbrev is_table : Entrance → Bool
-is_table ByA = true
-is_table ByB = true
-is_table ByC = true
-is_table _ = false
+-- SYSCALLs that aren't traps are in no slot
+abbrev is_syscall : Entrance → Bool
+is_syscall ByInterrupt = false
+is_syscall ByTrap = false
+is_syscall _ = true
 
-no_slot : (code : ℕ) (slot : Bool) (epc : ℕ) (by : Entrance) → entrance code slot epc ≡ by → is_table by ≡ true → slot ≡ false
+no_slot : (code : ℕ) (slot : Bool) (epc : ℕ) (by : Entrance) → entrance code slot epc ≡ by → is_syscall by ≡ true → slot ≡ false
 no_slot code false epc by e h = refl
-no_slot code true epc by e h = absurd (false≢true (sym (trapped (nat_eq code 0) (nat_eq code 8)) ∙ (ap is_table e ∙ h)))
+no_slot code true epc by e h = absurd (false≢true (sym (trapped (nat_eq code 0) (nat_eq code 8)) ∙ (ap is_syscall e ∙ h)))
   where
-    trapped : (a b : Bool) → is_table (if a then ByInterrupt else (if b then ByTrap else ByTrap)) ≡ false
+    trapped : (a b : Bool) → is_syscall (if a then ByInterrupt else (if b then ByTrap else ByTrap)) ≡ false
     trapped true b = refl
     trapped false true = refl
     trapped false false = refl
@@ -130,23 +131,35 @@ module _ (go : CallId → ℕ) (m : Memory) (all : AllPlaced m) (tables : Tables
     stops = λ x y w. refl;
   })
 
-  -- a call by its row: its routine is arrived at
-  arrives : s.running.context.in_slot ≡ false → (id : CallId) → call_made s code ≡ Some id → (e : Run) → Keeps kernel_words m e → AreaEntered c z on m [] 100 e → AtRoutine go m s code (call id t) (kernel_core (state_at e (go id))) e.seen
-  arrives out id made e ke h = record {
-    id = id;
-    made = made;
-    is = refl;
-    regs = e.regs;
-    cop0 = e.cop0;
-    core = (λ i. kernel_at (record e.regs { r4 = h.r4 i; r5 = h.args.0 i; r6 = h.args.1 i; r7 = h.args.2 i; r29 = h.args.3 i }) e.cop0 e.bytes (go id));
-    off = ke.masked;
-    out = out;
-    area = subst (λ x. Block (word e.bytes) 0xEB00 (saved (held c x on))) (ap (λ b. if b then (s.running.context.pc + (2 ^ 32 - 4)) % 2 ^ 32 else s.running.context.pc) out) h.holds.area;
-    spared = h.holds.spared;
-    quiet = h.holds.ports;
-  }
+  -- the routine of the entry is arrived at
+  module _ (r : Routine) (by : routine_of_entry s code ≡ Some r) (e : Run) (ke : Keeps kernel_words m e) (h : AreaEntered c z on m [] 130 e) where
+    arrives_in : (u : KernelState) → entered_by r s ≡ u → (registers_of u).r4 ≡ c.r4 → ((registers_of u).r5 ≡ c.r5) × ((registers_of u).r6 ≡ c.r6) × ((registers_of u).r7 ≡ c.r7) × ((registers_of u).r29 ≡ c.r29)
+        → u.running.context.in_slot ≡ false → Block (word e.bytes) 0xEB00 (saved u.running) → Show (stay_by r u) e (place_by go r)
+    arrives_in u is r4 args out area n few = within_here (Z (stay_by r u)) n (kernel_core (state_at e (place_by go r))) e.seen (inr (record {
+      routine = r;
+      by = by;
+      is = ap (stay_by r) (sym is);
+      regs = e.regs;
+      cop0 = e.cop0;
+      core = (λ i. kernel_at (record e.regs { r4 = h.r4 i; r5 = h.args.0 i; r6 = h.args.1 i; r7 = h.args.2 i; r29 = h.args.3 i }) e.cop0 e.bytes (place_by go r))
+          ∙ (λ i. kernel_at (record e.regs { r4 = sym r4 i; r5 = sym args.0 i; r6 = sym args.1 i; r7 = sym args.2 i; r29 = sym args.3 i }) e.cop0 e.bytes (place_by go r))
+          ∙ (λ i. kernel_at (called_with (registers_of (sym is i)) e.regs) e.cop0 e.bytes (place_by go r));
+      off = ke.masked;
+      out = subst (λ x. x.running.context.in_slot ≡ false) (sym is) out;
+      area = subst (λ x. Block (word e.bytes) 0xEB00 (saved x.running)) (sym is) area;
+      spared = h.holds.spared;
+      quiet = h.holds.ports;
+    }))
 
-  called : s.running.context.in_slot ≡ false → (T : Table) (o : Option CallId) → call_made s code ≡ o → (e : Run) → Keeps kernel_words m e → AreaEntered c z on m [] 100 e → e.regs.r10 ≡ table_number T → Show (by_row T o t) e (destination go o)
+  arrives : s.running.context.in_slot ≡ false → (r : Routine) → routine_of_entry s code ≡ Some r → entered_by r s ≡ t → (e : Run) → Keeps kernel_words m e → AreaEntered c z on m [] 130 e → Show (stay_by r t) e (place_by go r)
+  arrives out r by in_t e ke h =
+      arrives_in r by e ke h t in_t refl (refl, refl, refl, refl) out
+      (subst (λ x. Block (word e.bytes) 0xEB00 (saved (held c x on))) (ap (λ b. if b then (s.running.context.pc + (2 ^ 32 - 4)) % 2 ^ 32 else s.running.context.pc) out) h.holds.area)
+
+  interrupt_arrives : routine_of_entry s code ≡ Some OfInterrupt → (e : Run) → Keeps kernel_words m e → AreaEntered c z on m [] 130 e → Show (interrupts t) e INTERRUPTS
+  interrupt_arrives by e ke h = arrives_in OfInterrupt by e ke h (interrupted t) refl refl (refl, refl, refl, refl) refl h.holds.area
+
+  called : s.running.context.in_slot ≡ false → (T : Table) (o : Option CallId) → routine_of_entry s code ≡ option_map OfCall o → (e : Run) → Keeps kernel_words m e → AreaEntered c z on m [] 100 e → e.regs.r10 ≡ table_number T → Show (by_row T o t) e (destination go o)
   called out T None made e ke h r = unserved_shown m all (by_row T None t) (Z (by_row T None t)) (mine (by_row T None t) refl) c z on [] e ke h (table_number T) r (record {
     stop = Unserved T c.r9 c.r31;
     memory = s.memory;
@@ -154,9 +167,9 @@ module _ (go : CallId → ℕ) (m : Memory) (all : AllPlaced m) (tables : Tables
     is = refl;
     stops = λ x y w. ap (λ n. Some (Unserved n c.r9 c.r31)) (table_is T);
   })
-  called out T (Some id) made e ke h r = λ n few. within_here (Z (call id t)) n (kernel_core (state_at e (go id))) e.seen (inr (arrives out id made e ke h))
+  called out T (Some id) made e ke h r = arrives out (OfCall id) made refl e ke (further_in c z on m [] 100 130 e (omega arith) h)
 
-  table_shown : s.running.context.in_slot ≡ false → (T : Table) → call_made s code ≡ served_call T c.r9 → (tr : Tree) (at : ℕ) (e : Run) → IsPlaced kernel_words m at tr → Keeps kernel_words m e → Meets kernel_words (calls kernel_words []) tr at (λ _. ⊥) (λ to x. Called go T (table_number T) c z on m [] 100 to x) e
+  table_shown : s.running.context.in_slot ≡ false → (T : Table) → routine_of_entry s code ≡ option_map OfCall (served_call T c.r9) → (tr : Tree) (at : ℕ) (e : Run) → IsPlaced kernel_words m at tr → Keeps kernel_words m e → Meets kernel_words (calls kernel_words []) tr at (λ _. ⊥) (λ to x. Called go T (table_number T) c z on m [] 100 to x) e
       → Show (by_row T (served_call T c.r9) t) e at
   table_shown out T made tr at e pl ke me =
       let stay = by_row T (served_call T c.r9) t in
@@ -170,47 +183,57 @@ module _ (go : CallId → ℕ) (m : Memory) (all : AllPlaced m) (tables : Tables
   abbrev behind : ℕ
   behind = (epc_of s.running.context + 4) % 2 ^ 32
 
-  sys_goes : (n : ℕ) (d : Registers) (off : Bool) (e : Run) → Keeps kernel_words m e → KeepsRest s (syscall n t) → Returns (syscall n t) d behind off [] → ((x : Run) → SysStops n z.epc m [] 130 x → ⊥) → ((to : ℕ) (x : Run) → SysGoes n c z.epc on m [] 130 to x → (to ≡ BEHIND) × AreaHolds d z.epc off m [] 130 x)
-      → Meets kernel_words (calls kernel_words []) (tree SYSCALLS_NODES) SYSCALLS (λ x. SysStops n z.epc m [] 130 x) (λ to x. SysGoes n c z.epc on m [] 130 to x) e → Show (syscall n t) e SYSCALLS
+  sys_goes : (n : ℕ) (d : Registers) (off : Bool) (e : Run) → Keeps kernel_words m e → KeepsRest s (syscall n t) → Returns (syscall n t) d behind off [] → ((x : Run) → SysStops n z.epc m [] 130 x → ⊥) → ((to : ℕ) (x : Run) → SysGoes n c z on m [] 130 to x → (to ≡ BEHIND) × AreaHolds d z.epc off m [] 130 x)
+      → Meets kernel_words (calls kernel_words []) (tree SYSCALLS_NODES) SYSCALLS (λ x. SysStops n z.epc m [] 130 x) (λ to x. SysGoes n c z on m [] 130 to x) e → Show (syscall n t) e SYSCALLS
   sys_goes n d off e ke own r none goes me =
       let stay = syscall n t in
-      walks m (Z stay) (tree SYSCALLS_NODES) SYSCALLS (λ x. SysStops n z.epc m [] 130 x) (λ to x. SysGoes n c z.epc on m [] 130 to x) e all.syscalls ke (λ x b. absurd (none x b)) (λ a x g. low x (goes a x g).1) (λ x kx b. absurd (none x b))
+      walks m (Z stay) (tree SYSCALLS_NODES) SYSCALLS (λ x. SysStops n z.epc m [] 130 x) (λ to x. SysGoes n c z on m [] 130 to x) e all.syscalls ke (λ x b. absurd (none x b)) (λ a x g. low x (goes a x g).1) (λ x kx b. absurd (none x b))
       (λ a x kx g. let f = goes a x g in subst (λ y. Show stay x y) (sym f.0) (behind_shown m all stay (Z stay) (mine stay own) d z.epc off [] x kx f.1 r)) me
     where
       low : (x : Run) → AreaHolds d z.epc off m [] 130 x → x.steps ≤ 200
       low x h = omega (arith, h.within)
 
-  sys_shown : (n : ℕ) (e : Run) → Keeps kernel_words m e → AreaEntered c z on m [] 100 e → e.regs.r4 ≡ n → Show (syscall n t) e SYSCALLS
-  sys_shown zero e ke h q =
+  -- one that delivers
+  sys_delivered : s.running.context.in_slot ≡ false → (n : ℕ) → routine_of_entry s code ≡ Some OfDelivery → (e : Run) → Keeps kernel_words m e → Meets kernel_words (calls kernel_words []) (tree SYSCALLS_NODES) SYSCALLS (λ _. ⊥) (λ to x. (to ≡ DELIVER) × AreaEntered c z on m [] 130 x) e
+      → Show (sys_delivers t) e SYSCALLS
+  sys_delivered out n by e ke me =
+      walks m (Z (sys_delivers t)) (tree SYSCALLS_NODES) SYSCALLS (λ _. ⊥) (λ to x. (to ≡ DELIVER) × AreaEntered c z on m [] 130 x) e all.syscalls ke (λ x b. absurd b) (λ a x g. low x g.1) (λ x kx b. absurd b)
+      (λ a x kx g. subst (λ y. Show (sys_delivers t) x y) (sym g.0) (arrives out OfDelivery by refl x kx g.1)) me
+    where
+      low : (x : Run) → AreaEntered c z on m [] 130 x → x.steps ≤ 200
+      low x h = omega (arith, h.holds.within)
+
+  sys_shown : s.running.context.in_slot ≡ false → (n : ℕ) → routine_of_entry s code ≡ routine_by BySyscall n → (e : Run) → Keeps kernel_words m e → AreaEntered c z on m [] 100 e → e.regs.r4 ≡ n → Show (syscall n t) e SYSCALLS
+  sys_shown out zero by e ke h q =
       sys_goes zero c on e ke refl (record { state = with_running t (taken t.running.context behind); follows = tt; is = refl; context = refl; interrupts = refl }) (λ x b. b) (λ to x g. g) (sys_meets c z on m [] 100 130 e h (omega arith) 0 q)
-  sys_shown (suc zero) e ke h q =
+  sys_shown out (suc zero) by e ke h q =
       sys_goes 1 (record c { r2 = was_on on }) false e ke refl (record { state = with_interrupts (with_running t (with_answer (taken t.running.context behind) (was_on on))) false; follows = tt; is = refl; context = refl; interrupts = refl }) (λ x b. b) (λ to x g. g) (sys_meets c z on m [] 100 130 e h (omega arith) 1 q)
-  sys_shown (suc (suc zero)) e ke h q =
+  sys_shown out (suc (suc zero)) by e ke h q =
       sys_goes 2 c true e ke refl (record { state = with_running (with_interrupts t true) (taken t.running.context behind); follows = tt; is = refl; context = refl; interrupts = refl }) (λ x b. b) (λ to x g. g) (sys_meets c z on m [] 100 130 e h (omega arith) 2 q)
-  sys_shown (suc (suc (suc n))) e ke h q =
-      let number : ℕ = suc (suc (suc n)) in
-      stops_here m all (syscall number t) (Z (syscall number t)) (mine (syscall number t) refl) (tree SYSCALLS_NODES) SYSCALLS 3 (PortWrite HALT_C z.epc ∷ PortWrite HALT_B number ∷ PortWrite HALT_A 3 ∷ []) e all.syscalls ke (record {
-        stop = Unserved Sys number z.epc;
+  sys_shown out (suc (suc (suc zero))) by e ke h q =
+      stops_here m all (syscall 3 t) (Z (syscall 3 t)) (mine (syscall 3 t) refl) (tree SYSCALLS_NODES) SYSCALLS 3 (PortWrite HALT_C z.epc ∷ PortWrite HALT_B 3 ∷ PortWrite HALT_A 3 ∷ []) e all.syscalls ke (record {
+        stop = Unserved Sys 3 z.epc;
         memory = s.memory;
         follows = (((tt, refl), refl), refl);
         is = refl;
         stops = λ x y w. refl;
-      }) (sys_meets c z on m [] 100 200 e h (omega arith) number q)
+      }) (sys_meets c z on m [] 100 200 e h (omega arith) 3 q)
+  sys_shown out (suc (suc (suc (suc n)))) by e ke h q = sys_delivered out n by e ke (sys_meets c z on m [] 100 130 e h (omega arith) (suc (suc (suc (suc n)))) q)
 
-  -- the call of an entry, by its entrance
-  made_by : (by : Entrance) → entrance code s.running.context.in_slot z.epc ≡ by → call_made s code ≡ called_by by (number by code c)
-  made_by by is = ap (λ x. called_by x (number x code c)) is
+  -- the routine of an entry, by its entrance
+  made_by : (by : Entrance) → entrance code s.running.context.in_slot z.epc ≡ by → routine_of_entry s code ≡ routine_by by (number by code c)
+  made_by by is = ap (λ x. routine_by x (number x code c)) is
 
   -- an entry by its entrance
   arrived : (by : Entrance) → entrance code s.running.context.in_slot z.epc ≡ by → (e : Run) → Keeps kernel_words m e → AreaEntered c z on m [] 80 e → Show (by_entrance by code t) e (arrival by)
   arrived ByA is e ke h = table_shown (no_slot code s.running.context.in_slot z.epc ByA is refl) A (made_by ByA is) (tree CALL_A_NODES) CALL_A e all.call_a ke (call_a_meets go tables.there c z on m [] 80 100 e h (omega arith) (table_kept go m e A 0x200 0xC0 ke (omega arith) tables.a))
   arrived ByB is e ke h = table_shown (no_slot code s.running.context.in_slot z.epc ByB is refl) B (made_by ByB is) (tree CALL_B_NODES) CALL_B e all.call_b ke (call_b_meets go tables.there c z on m [] 80 100 e h (omega arith) (table_kept go m e B 0x874 0x5F ke (omega arith) tables.b))
   arrived ByC is e ke h = table_shown (no_slot code s.running.context.in_slot z.epc ByC is refl) C (made_by ByC is) (tree CALL_C_NODES) CALL_C e all.call_c ke (call_c_meets go tables.there c z on m [] 80 100 e h (omega arith) (table_kept go m e C 0x674 0x20 ke (omega arith) tables.c))
-  arrived BySyscall is e ke h = sys_shown c.r4 e ke (further_in c z on m [] 80 100 e (omega arith) h) h.r4
-  arrived ByInterrupt is e ke h = trap_shown e ke (further_in c z on m [] 80 100 e (omega arith) h)
+  arrived BySyscall is e ke h = sys_shown (no_slot code s.running.context.in_slot z.epc BySyscall is refl) c.r4 (made_by BySyscall is) e ke (further_in c z on m [] 80 100 e (omega arith) h) h.r4
+  arrived ByInterrupt is e ke h = interrupt_arrives (made_by ByInterrupt is) e ke (further_in c z on m [] 80 130 e (omega arith) h)
   arrived ByTrap is e ke h = trap_shown e ke (further_in c z on m [] 80 100 e (omega arith) h)
   arrived ByDone is e ke h = done_shown m all (by_entrance ByDone code t) (Z (by_entrance ByDone code t)) (mine (by_entrance ByDone code t) refl) c z on [] e ke (further_in c z on m [] 80 100 e (omega arith) h) (record { stop = Exit c.r2; memory = s.memory; follows = (tt, refl); is = refl; stops = λ x y w. refl })
-  arrived ByBack is e ke h = back_shown m all (by_entrance ByBack code t) (Z (by_entrance ByBack code t)) (mine (by_entrance ByBack code t) refl) c z on [] e ke (further_in c z on m [] 80 100 e (omega arith) h) (record { stop = BadReturn c.r31; memory = s.memory; follows = (tt, refl); is = refl; stops = λ x y w. refl })
+  arrived ByBack is e ke h = arrives (no_slot code s.running.context.in_slot z.epc ByBack is refl) OfBack (made_by ByBack is) refl e ke (further_in c z on m [] 80 130 e (omega arith) h)
 
   -- from the causes on, from the save and from the vector
   abbrev own : Entrance
@@ -257,15 +280,15 @@ module _ (go : CallId → ℕ) (m : Memory) (all : AllPlaced m) (tables : Tables
 -- ---- an entry
 
 -- SR and the vector at an entry from the user side
-sr_entered : (on : Bool) → entered_sr (user_sr on) ≡ saved_sr_of on
+pub sr_entered : (on : Bool) → entered_sr (user_sr on) ≡ saved_sr_of on
 sr_entered true = refl
 sr_entered false = refl
 
-sr_off : (on : Bool) → entered_sr (user_sr on) % 2 ≡ 0
+pub sr_off : (on : Bool) → entered_sr (user_sr on) % 2 ≡ 0
 sr_off true = refl
 sr_off false = refl
 
-vector_is : (on : Bool) → vector (user_sr on) ≡ VECTOR
+pub vector_is : (on : Bool) → vector (user_sr on) ≡ VECTOR
 vector_is true = refl
 vector_is false = refl
 

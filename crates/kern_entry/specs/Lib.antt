@@ -1,7 +1,11 @@
 pub mod EntryWords
+pub mod WorkOwn
 pub mod Within
 pub mod WalkLaws
 pub mod Made
 pub mod EntryLaws
+pub mod WorkLaws
+pub mod InterruptLaws
 pub mod Holding
 pub mod Tables
+pub mod FramesOwn

@@ -28,9 +28,6 @@ pub const BEHIND_NODES: [Node; 6] = [
     Node::Jump(RESUME),
 ];
 
-/// No tasks are kept yet: the context is taken up.
-pub const WORK_NODES: [Node; 1] = [Node::Jump(RESUME)];
-
 /// Takes up the context in the work area: all registers, HI, LO and SR, k0 the address at which it goes on and k1 0. The jump to k0 follows it, with RFE in its slot.
 pub const RESUME_NODES: [Node; 39] = [
     op!(LUI r26, area::AREA),

@@ -3,16 +3,27 @@
 #![tactic(auto)]
 
 pub mod area;
+pub mod back;
 pub mod calls;
+pub mod chains;
+pub mod deliver;
+pub mod elements;
+pub mod frames;
+pub mod interrupts;
 pub mod law;
 pub mod leave;
 pub mod places;
 mod placing;
+pub mod push;
 pub mod save;
+pub mod scan;
 pub mod stepwise;
 pub mod stops;
 pub mod sys;
+pub mod take_up;
+pub mod tasks;
 #[cfg(test)]
 mod tests;
+pub mod work;
 
 pub use placing::{apart, place_code, place_vector};

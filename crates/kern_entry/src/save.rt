@@ -1,6 +1,8 @@
 //! From the exception vector to the cause of the entry. k0 and k1 are the kernel's own: a program doesn't find them again.
 use crate::area;
-use crate::places::{BACK, CALL_A, CALL_B, CALL_C, CAUSES, DONE, EXCEPTION, SAVE, SYSCALLS};
+use crate::places::{
+    BACK, CALL_A, CALL_B, CALL_C, CAUSES, DONE, EXCEPTION, INTERRUPTS, SAVE, SYSCALLS,
+};
 use kern_layout::ranges::{GATE_A, GATE_B, GATE_BACK, GATE_C, GATE_DONE};
 use psx_flow::{Node, Test, op, register};
 
@@ -56,14 +58,17 @@ pub const SAVE_NODES: [Node; 39] = [
 ];
 
 /// Goes on by Cause and EPC. r9, r4, r2 and r31 are the program's.
-pub const CAUSES_NODES: [Node; 35] = [
-    // The code, bits 2 to 6; bit 31 says that the instruction is in a delay slot.
+pub const CAUSES_NODES: [Node; 38] = [
+    // The code, bits 2 to 6: 0 is an interrupt, 8 a SYSCALL; bit 31 says that the instruction is in a delay slot.
     op!(MFC0 r8, r13),
     op!(NOP),
     op!(SLL r10, r8, 25),
     op!(SRL r10, r10, 27),
     op!(ADDIU r11, r0, 8),
     Node::If(Test::Differ(register!(r10), register!(r11))),
+    Node::If(Test::Same(register!(r10), register!(r0))),
+    Node::Jump(INTERRUPTS),
+    Node::End,
     Node::Jump(EXCEPTION),
     Node::End,
     Node::If(Test::Negative(register!(r8))),

@@ -30,14 +30,6 @@ pub const EXCEPTION_NODES: [Node; 10] = [
 /// The program's return, with its answer as the code.
 pub const DONE_NODES: [Node; 2] = [op!(OR r4, r0, r2), Node::Jump(EXIT)];
 
-/// A callback's return, to a kernel that called none.
-pub const BACK_NODES: [Node; 4] = [
-    op!(LUI r26, area::PORTS),
-    op!(SW r31, r26, area::PORT_A),
-    op!(ADDIU r8, r0, area::CODE_BAD_RETURN),
-    op!(SW r8, r26, area::PORT_HALT),
-];
-
 // A stop that names what r8 has, and the caller's r31.
 macro_rules! stop {
     ($code:expr) => {
@@ -64,5 +56,15 @@ pub const DEEP_NODES: [Node; 4] = [
     op!(LUI r26, area::PORTS),
     op!(SW r31, r26, area::PORT_A),
     op!(ADDIU r8, r0, area::CODE_DEEP),
+    op!(SW r8, r26, area::PORT_HALT),
+];
+
+/// The return of a function that the kernel hasn't called, with the context's r31.
+pub const BAD_RETURN_NODES: [Node; 6] = [
+    op!(LUI r26, area::AREA),
+    op!(LW r10, r26, area::REGISTERS + 4 * 31),
+    op!(LUI r26, area::PORTS),
+    op!(ADDIU r8, r0, area::CODE_BAD_RETURN),
+    op!(SW r10, r26, area::PORT_A),
     op!(SW r8, r26, area::PORT_HALT),
 ];
