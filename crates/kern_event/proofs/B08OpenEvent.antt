@@ -1,5 +1,5 @@
 -- OpenEvent meets its stay.
-use Rattle.psx_flow.proofs.Kit.{◌≡◌, ℕ, suc, ◌+◌, ◌-◌, ◌*◌, ◌%◌, ◌^◌, ◌<◌, ◌≤◌, [], refl, sym, ap, ◌∙◌, subst, arith, ⊎_elim, Memory, word, put_word, Run, Goal, Calls, calls, kernel_words, fair, start, true, false}
+use Rattle.psx_flow.proofs.Kit.{◌≡◌, ℕ, suc, ◌+◌, ◌-◌, ◌*◌, ◌%◌, ◌<◌, ◌≤◌, [], refl, sym, ap, ◌∙◌, subst, arith, ⊎_elim, Memory, word, put_word, Run, Goal, Calls, calls, kernel_words, fair, start, true, false}
 use Rattle.std.proofs.Common.{zero, length}
 use Rattle.std.proofs.lemmas.Bool.{cases_eq}
 use Rattle.std.specs.Prelude.{Bool, if◌then◌else◌}
@@ -17,7 +17,7 @@ use Rattle.kern_stay.proofs.Ending.{through, answers}
 use Rattle.kern_stay.proofs.Looping.{Turning, looped}
 use Rattle.kern_event.specs.declared.places.TheConstants.{OPEN_EVENT}
 use Rattle.kern_event.specs.declared.b08_open_event.TheConstants.{NODES}
-use Rattle.kern_event.proofs.EventsHeld.{status_is, is_so, isnt_so, Field, field, Written, unwritten, written, holds_written}
+use Rattle.kern_event.proofs.EventsHeld.{status_is, is_so, isnt_so, field, unwritten, written, holds_written}
 
 -- the slots from i on, where there is one
 takes : (k i : ℕ) (s : KernelState) (b : Bool) → 0 < k → has_status s i 0 ≡ b → opens_from k s i ≡ (if b then answered (with_opened s i) (event_handle i) else opens_from (k - 1) s (suc i))

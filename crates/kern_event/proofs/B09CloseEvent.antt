@@ -1,5 +1,5 @@
 -- CloseEvent, EnableEvent and DisableEvent meet their stays.
-use Rattle.psx_flow.proofs.Kit.{◌≡◌, ℕ, ◌+◌, ◌%◌, ◌^◌, ◌<◌, ◌≤◌, [], refl, sym, ap, ◌∙◌, arith, Memory, Registers, Cop0, Calls, Tree, Stop, Do, calls, kernel_words, fair, start, true, false, word, Sym, Count, ended}
+use Rattle.psx_flow.proofs.Kit.{◌≡◌, ℕ, ◌+◌, ◌<◌, ◌≤◌, [], refl, sym, ap, ◌∙◌, arith, Memory, Registers, Cop0, Calls, Tree, Stop, Do, calls, kernel_words, fair, start, true, false, word, Sym, Count, ended}
 use Rattle.std.proofs.Common.{length}
 use Rattle.std.specs.Prelude.{Bool, if◌then◌else◌}
 use Rattle.psx_base.specs.KernelState.{KernelState}

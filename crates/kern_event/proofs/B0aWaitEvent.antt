@@ -1,12 +1,11 @@
 -- WaitEvent meets its stay.
-use Rattle.psx_flow.proofs.Kit.{◌≡◌, ℕ, ◌+◌, ◌%◌, ◌^◌, ◌<◌, ◌≤◌, [], refl, sym, ap, ◌∙◌, subst, arith, calls, kernel_words, fair, start, true, false, word, Run}
+use Rattle.psx_flow.proofs.Kit.{◌≡◌, ℕ, ◌<◌, ◌≤◌, [], refl, sym, ◌∙◌, subst, arith, calls, kernel_words, fair, start, true, false, word, Run}
 use Rattle.std.proofs.Common.{length}
 use Rattle.std.specs.Prelude.{Bool, if◌then◌else◌}
 use Rattle.psx_base.specs.KernelState.{KernelState}
 use Rattle.abs_kernel.specs.Stay.{Stay}
 use Rattle.abs_kernel.specs.Answered.{registers_of, answered, waits}
 use Rattle.abs_kernel.specs.Events.{event_number, has_status, with_status}
-use Rattle.abs_kernel.specs.TestEvent.{test_event}
 use Rattle.abs_kernel.specs.WaitEvent.{wait_event}
 use Rattle.abs_kernel.specs.declared.calls.CallId.TheVariants.{B0A}
 use Rattle.abs_kernel.specs.Calls.{call}

@@ -1,5 +1,5 @@
 -- TestEvent meets its stay.
-use Rattle.psx_flow.proofs.Kit.{◌≡◌, ℕ, ◌+◌, ◌%◌, ◌^◌, ◌<◌, ◌≤◌, [], refl, sym, ap, ◌∙◌, arith, calls, kernel_words, fair, start, true, false, word}
+use Rattle.psx_flow.proofs.Kit.{◌≡◌, ℕ, ◌<◌, [], refl, sym, ap, ◌∙◌, arith, calls, kernel_words, fair, start, true, false, word}
 use Rattle.std.proofs.Common.{length}
 use Rattle.std.specs.Prelude.{Bool, if◌then◌else◌}
 use Rattle.abs_kernel.specs.Stay.{Stay}

@@ -1,5 +1,5 @@
 -- UnDeliverEvent meets its stay.
-use Rattle.psx_flow.proofs.Kit.{◌≡◌, ℕ, suc, ◌+◌, ◌-◌, ◌*◌, ◌%◌, ◌^◌, ◌<◌, ◌≤◌, [], refl, sym, ap, ◌∙◌, subst, arith, ⊎_elim, Memory, word, put_word, Registers, Run, Goal, Calls, calls, kernel_words, fair, start, true, false}
+use Rattle.psx_flow.proofs.Kit.{◌≡◌, ℕ, suc, ◌+◌, ◌-◌, ◌*◌, ◌%◌, ◌^◌, ◌<◌, ◌≤◌, [], refl, sym, ap, ◌∙◌, subst, arith, ⊎_elim, word, put_word, Registers, Run, Goal, Calls, calls, kernel_words, fair, start, true, false}
 use Rattle.std.proofs.Common.{zero, length, List, ◌∷◌, ne_eqb, eq-eqb, inl, inr}
 use Rattle.std.proofs.lemmas.Bool.{cases_eq}
 use Rattle.std.proofs.lemmas.List.{length-set}
@@ -14,7 +14,7 @@ use Rattle.abs_kernel.specs.declared.calls.CallId.TheVariants.{B20}
 use Rattle.abs_kernel.specs.Calls.{call}
 use Rattle.abs_kernel.proofs.Evented.{EventsFit, events_same, events_set, valid_evented}
 use Rattle.kern_stay.specs.Shared.{tree, tested_there}
-use Rattle.kern_stay.specs.Doors.{Holds, Arrives, Through, Serves, called_with, begun, most_steps}
+use Rattle.kern_stay.specs.Doors.{Holds, Through, Serves, called_with, begun, most_steps}
 use Rattle.kern_stay.proofs.Ending.{through, answers}
 use Rattle.kern_stay.proofs.Looping.{Turning, looped}
 use Rattle.kern_event.specs.declared.places.TheConstants.{UNDELIVER_EVENT}

@@ -1,16 +1,14 @@
 -- SysEnqIntRP meets its stay.
-use Rattle.psx_flow.proofs.Kit.{◌≡◌, ℕ, suc, ◌+◌, ◌-◌, ◌*◌, ◌%◌, ◌^◌, ◌<◌, ◌≤◌, ◌++◌, [], refl, sym, ap, ◌∙◌, subst, arith, ⊎_elim, Memory, word, put_word, place, Goal, Calls, calls, kernel_words, start, true, false}
-use Rattle.std.proofs.Common.{zero, length, List, ◌∷◌, inl, inr, ◌⊎◌, ne_eqb, eq-eqb}
-use Rattle.std.proofs.lemmas.Bool.{lt-ltb, cases_lt, and_parts, leb-true, ltb-true}
+use Rattle.psx_flow.proofs.Kit.{◌≡◌, ℕ, suc, ◌+◌, ◌-◌, ◌*◌, ◌%◌, ◌^◌, ◌<◌, ◌≤◌, ◌++◌, [], refl, sym, ap, ◌∙◌, subst, arith, ⊎_elim, Memory, word, put_word, place, Calls, calls, kernel_words, start, true, false}
+use Rattle.std.proofs.Common.{length, List, ◌∷◌, ne_eqb}
+use Rattle.std.proofs.lemmas.Bool.{lt-ltb, cases_lt, and_parts, ltb-true}
 use Rattle.std.specs.Prelude.{Bool, ◌&&◌, nat_eq, nat_le, nat_lt, if◌then◌else◌}
 use Rattle.psx_base.specs.Addresses.{user}
 use Rattle.psx_base.specs.KernelState.{KernelState}
 use Rattle.psx_flow.proofs.Users.{sort_user_word}
-use Rattle.kern_layout.specs.Fields.{Stack}
 use Rattle.kern_layout.specs.Stores.{with_chain}
 use Rattle.kern_layout.specs.Reads.{chain, chain_at, ChainAt}
 use Rattle.kern_layout.specs.Valid.{Valid}
-use Rattle.kern_layout.proofs.Blocks.{stack_same}
 use Rattle.abs_kernel.specs.Stay.{Stay}
 use Rattle.abs_kernel.specs.Answered.{registers_of, answered}
 use Rattle.abs_kernel.specs.UserBytes.{bad_pointer}

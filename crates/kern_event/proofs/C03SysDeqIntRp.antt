@@ -1,7 +1,7 @@
 -- SysDeqIntRP meets its stay.
 use Rattle.psx_flow.proofs.Kit.{◌≡◌, ℕ, suc, ◌+◌, ◌-◌, ◌*◌, ◌%◌, ◌^◌, ◌<◌, ◌≤◌, [], refl, sym, ap, ◌∙◌, subst, arith, ⊎_elim, Memory, word, put_word, Run, Goal, Calls, Fair, Tree, calls, kernel_words, fair, start, true, false}
-use Rattle.std.proofs.Common.{zero, length, List, ◌∷◌, ne_eqb, eq-eqb}
-use Rattle.std.proofs.lemmas.Bool.{cases_eq, cases_lt}
+use Rattle.std.proofs.Common.{length, List, ◌∷◌, ne_eqb, eq-eqb}
+use Rattle.std.proofs.lemmas.Bool.{cases_eq}
 use Rattle.std.proofs.lemmas.List.{get_or_past}
 use Rattle.std.specs.Prelude.{Bool, ◌||◌, nat_eq, if◌then◌else◌}
 use Rattle.psx_base.specs.KernelState.{KernelState}

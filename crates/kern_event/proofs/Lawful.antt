@@ -1,27 +1,26 @@
 -- The laws of the calls.
-use Rattle.std.proofs.Common.{◌≡◌, ℕ, zero, suc, ◌+◌, ◌-◌, ◌%◌, ◌^◌, ◌<◌, ◌≤◌, ◌⊎◌, inl, inr, Bool, true, false, List, [], ◌∷◌, length, refl, sym, ap, ◌∙◌, subst, arith, ⊎_elim, get_or-set_same, get_or-set_other, eq-eqb, ne_eqb}
-use Rattle.std.specs.Prelude.{nat_eq, nat_lt, ◌&&◌, ◌||◌, map, slice_index_or, slice_set, if◌then◌else◌}
+use Rattle.std.proofs.Common.{◌≡◌, ℕ, zero, suc, ◌+◌, ◌-◌, ◌%◌, ◌^◌, ◌<◌, ◌≤◌, ◌⊎◌, inl, inr, Bool, true, false, List, [], ◌∷◌, length, refl, sym, ap, ◌∙◌, subst, arith, ⊎_elim, get_or-set_same, get_or-set_other, eq-eqb}
+use Rattle.std.specs.Prelude.{nat_eq, nat_lt, ◌&&◌, ◌||◌, map, slice_index_or, if◌then◌else◌}
 use Rattle.std.proofs.lemmas.Bool.{false≢true, cases_eq, cases_lt, eqb-true, ltb-true}
-use Rattle.std.proofs.lemmas.List.{get_or_past, length-set}
+use Rattle.std.proofs.lemmas.List.{get_or_past}
 use Rattle.psx_base.specs.KernelState.{Event, KernelState}
 use Rattle.kern_layout.specs.Reads.{event, chain, no_event}
 use Rattle.kern_layout.specs.Stores.{with_event, with_chain}
 use Rattle.kern_layout.specs.Valid.{Valid}
 use Rattle.abs_kernel.specs.StayLaws.{EachEnd, EachReturn}
-use Rattle.abs_kernel.specs.Answered.{registers_of, answered, waits}
+use Rattle.abs_kernel.specs.Answered.{registers_of, answered}
 use Rattle.abs_kernel.specs.UserWords.{user_word}
 use Rattle.abs_kernel.specs.Events.{event_number, event_handle, has_status, with_status, gets_status}
-use Rattle.abs_kernel.specs.OpenEvent.{with_opened, opens_from, open_event}
+use Rattle.abs_kernel.specs.OpenEvent.{with_opened, opens_from}
 use Rattle.abs_kernel.specs.CloseEvent.{close_event}
 use Rattle.abs_kernel.specs.TestEvent.{test_event}
 use Rattle.abs_kernel.specs.WaitEvent.{wait_event}
 use Rattle.abs_kernel.specs.UnDeliverEvent.{undelivered, undeliver_event}
 use Rattle.abs_kernel.specs.Chains.{has, without}
-use Rattle.abs_kernel.specs.SysEnqIntRP.{links, sys_enq_int_rp}
 use Rattle.abs_kernel.specs.SysDeqIntRP.{sys_deq_int_rp}
 use Rattle.abs_kernel.proofs.Ending.{if_ends, if_ends_by}
 use Rattle.kern_event.specs.Laws.{AnswerAlone, named, IsReady, Tested, ReadyOnce, BadHandleKeeps, IsOpen, OpensGood, StaysGood, TakenBack}
-use Rattle.kern_event.proofs.EventsHeld.{status_past, is_so, isnt_so}
+use Rattle.kern_event.proofs.EventsHeld.{status_past, is_so}
 
 -- ---- an event of a table
 

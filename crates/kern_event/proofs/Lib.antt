@@ -1,4 +1,5 @@
 pub mod EventsHeld
+pub mod B07DeliverEvent
 pub mod B08OpenEvent
 pub mod B09CloseEvent
 pub mod B0aWaitEvent

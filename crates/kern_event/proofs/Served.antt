@@ -3,6 +3,7 @@ use Rattle.std.proofs.Common.{[], refl, inl}
 use Rattle.psx_base.specs.Memory.{Memory, word}
 use Rattle.psx_flow.specs.Kernel.{kernel_words}
 use Rattle.psx_flow.specs.Reaches.{ArePlaced}
+use Rattle.abs_kernel.specs.DeliverEvent.{deliver_event}
 use Rattle.abs_kernel.specs.OpenEvent.{open_event}
 use Rattle.abs_kernel.specs.CloseEvent.{close_event}
 use Rattle.abs_kernel.specs.EnableEvent.{enable_event}
@@ -18,7 +19,8 @@ use Rattle.kern_stay.specs.Shared.{tree}
 use Rattle.kern_stay.specs.declared.room.TheConstants.{ROOM_NODES}
 use Rattle.kern_stay.proofs.Standing.{placed_by}
 use Rattle.kern_stay.proofs.Serving.{served_by}
-use Rattle.kern_event.specs.declared.places.TheConstants.{OPEN_EVENT, CLOSE_EVENT, ENABLE_EVENT, DISABLE_EVENT, TEST_EVENT, WAIT_EVENT, UNDELIVER_EVENT, ROOM, SYS_ENQ_INT_RP, SYS_DEQ_INT_RP}
+use Rattle.kern_event.specs.declared.places.TheConstants.{OPEN_EVENT, CLOSE_EVENT, ENABLE_EVENT, DISABLE_EVENT, TEST_EVENT, WAIT_EVENT, UNDELIVER_EVENT, ROOM, SYS_ENQ_INT_RP, SYS_DEQ_INT_RP, DELIVER_EVENT}
+use Rattle.kern_event.specs.declared.b07_deliver_event.TheConstants as deliver_is
 use Rattle.kern_event.specs.declared.b08_open_event.TheConstants as open_is
 use Rattle.kern_event.specs.declared.b09_close_event.TheConstants as close_is
 use Rattle.kern_event.specs.declared.b0a_wait_event.TheConstants as wait_is
@@ -29,6 +31,7 @@ use Rattle.kern_event.specs.declared.c03_sys_deq_int_rp.TheConstants as deq_is
 use Rattle.kern_event.specs.Own.{own}
 use Rattle.kern_event.specs.EventWords.{event_pieces}
 use Rattle.kern_event.specs.EventLaws.{EventServes}
+use Rattle.kern_event.proofs.B07DeliverEvent as of_deliver
 use Rattle.kern_event.proofs.B08OpenEvent as of_open
 use Rattle.kern_event.proofs.B09CloseEvent as of_close
 use Rattle.kern_event.proofs.B0aWaitEvent as of_wait
@@ -67,6 +70,9 @@ enq_served m r = served_by m most_steps sys_enq_int_rp SYS_ENQ_INT_RP own (tree 
 deq_served : (m : Memory) → Stand (word m) event_pieces → IsServed m most_steps sys_deq_int_rp SYS_DEQ_INT_RP
 deq_served m r = served_by m most_steps sys_deq_int_rp SYS_DEQ_INT_RP [] (tree deq_is.NODES) refl refl refl refl refl tt (r.1.1.1.1.1.1.1.1.1.0) of_deq.serves
 
+deliver_served : (m : Memory) → Stand (word m) event_pieces → IsServed m most_steps deliver_event DELIVER_EVENT
+deliver_served m r = served_by m most_steps deliver_event DELIVER_EVENT [] (tree deliver_is.NODES) refl refl refl refl refl tt (r.1.1.1.1.1.1.1.1.1.1.0) of_deliver.serves
+
 pub event_serves : EventServes
 event_serves m r =
-    (inl (open_served m r), (inl (close_served m r), (inl (enable_served m r), (inl (disable_served m r), (inl (test_served m r), (inl (wait_served m r), (inl (undeliver_served m r), (inl (enq_served m r), (inl (deq_served m r), tt)))))))))
+    (inl (open_served m r), (inl (close_served m r), (inl (enable_served m r), (inl (disable_served m r), (inl (test_served m r), (inl (wait_served m r), (inl (undeliver_served m r), (inl (enq_served m r), (inl (deq_served m r), (inl (deliver_served m r), tt))))))))))

@@ -2,7 +2,8 @@
 use Rattle.std.specs.Prelude.{ℕ, List, [], ◌∷◌}
 use Rattle.kern_stay.specs.Words.{listing}
 use Rattle.kern_stay.specs.declared.room.TheConstants.{ROOM_NODES}
-use Rattle.kern_event.specs.declared.places.TheConstants.{OPEN_EVENT, CLOSE_EVENT, ENABLE_EVENT, DISABLE_EVENT, TEST_EVENT, WAIT_EVENT, UNDELIVER_EVENT, ROOM, SYS_ENQ_INT_RP, SYS_DEQ_INT_RP}
+use Rattle.kern_event.specs.declared.places.TheConstants.{OPEN_EVENT, CLOSE_EVENT, ENABLE_EVENT, DISABLE_EVENT, TEST_EVENT, WAIT_EVENT, UNDELIVER_EVENT, ROOM, SYS_ENQ_INT_RP, SYS_DEQ_INT_RP, DELIVER_EVENT}
+use Rattle.kern_event.specs.declared.b07_deliver_event.TheConstants as deliver_event
 use Rattle.kern_event.specs.declared.b08_open_event.TheConstants as open_event
 use Rattle.kern_event.specs.declared.b09_close_event.TheConstants as close_event
 use Rattle.kern_event.specs.declared.b0a_wait_event.TheConstants as wait_event
@@ -24,4 +25,5 @@ event_pieces =
     ∷ listing ROOM ROOM_NODES
     ∷ listing SYS_ENQ_INT_RP sys_enq_int_rp.NODES
     ∷ listing SYS_DEQ_INT_RP sys_deq_int_rp.NODES
+    ∷ listing DELIVER_EVENT deliver_event.NODES
     ∷ []

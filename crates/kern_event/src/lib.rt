@@ -1,6 +1,7 @@
 //! The calls on events, and on the chains of interrupt handlers. Each routine's listing stands in a file of its own, with its theorem.
 #![tactic(auto)]
 
+pub mod b07_deliver_event;
 pub mod b08_open_event;
 pub mod b09_close_event;
 pub mod b0a_wait_event;

@@ -1,6 +1,8 @@
 //! Where the routines stand, in the cached segment, in which the kernel runs, and the kernel's data as the listings reach it.
 use kern_layout::places::{
     CHAIN_ELEMENTS, EVENT_BUSY, EVENT_COUNT, EVENT_DISABLED, EVENT_FREE, EVENT_READY, EVENT_STATUS,
+    FRAME_ELEMENT_COUNT, FRAME_EVENT, FRAME_FIRST, FRAME_KIND, FRAME_LINE_COUNT, FRAME_SPEC,
+    KIND_SCAN, SAVED_PC, SAVED_REGISTERS, WORK_AREA,
 };
 use kern_layout::ranges::{CHAINS as CHAINS_RANGE, EVENT_CODE, EVENTS};
 use kern_stay::places::CACHED;
@@ -34,6 +36,9 @@ pub const SYS_ENQ_INT_RP: u32 = ROOM + 0xC0;
 
 /// The listing of SysDeqIntRP.
 pub const SYS_DEQ_INT_RP: u32 = SYS_ENQ_INT_RP + 0xC0;
+
+/// The listing of DeliverEvent.
+pub const DELIVER_EVENT: u32 = SYS_DEQ_INT_RP + 0xC0;
 
 /// The upper half of the handles.
 pub const HANDLES: u16 = 0xF100;
@@ -76,3 +81,33 @@ pub const CHAIN_COUNT: u16 = 4;
 
 /// How many elements a chain may have.
 pub const MOST_ELEMENTS: u16 = 8;
+
+/// The lower half of r2's place in the work area.
+pub const ANSWER: u16 = (WORK_AREA + SAVED_REGISTERS + 4 * 2) as u16;
+
+/// That of r31's.
+pub const CALLER: u16 = (WORK_AREA + SAVED_REGISTERS + 4 * 31) as u16;
+
+/// That of the address at which the context goes on.
+pub const GOES_ON: u16 = (WORK_AREA + SAVED_PC) as u16;
+
+/// That of the kind of its task.
+pub const TASK_KIND: u16 = (WORK_AREA + FRAME_KIND) as u16;
+
+/// That of the class of a scan.
+pub const TASK_CLASS: u16 = (WORK_AREA + FRAME_FIRST) as u16;
+
+/// That of its spec.
+pub const TASK_SPEC: u16 = (WORK_AREA + FRAME_SPEC) as u16;
+
+/// That of the number of the event from which it goes on.
+pub const TASK_EVENT: u16 = (WORK_AREA + FRAME_EVENT) as u16;
+
+/// That of the number of elements.
+pub const ELEMENT_COUNT: u16 = (WORK_AREA + FRAME_ELEMENT_COUNT) as u16;
+
+/// That of the number of lines.
+pub const LINE_COUNT: u16 = (WORK_AREA + FRAME_LINE_COUNT) as u16;
+
+/// The kind of a scan.
+pub const SCAN: u16 = KIND_SCAN as u16;

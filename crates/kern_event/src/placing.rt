@@ -6,6 +6,7 @@ ghost use Rattle.kern_stay.specs.Words.{overlaid, EndsBy};
 ghost use Rattle.kern_stay.specs.declared.places.TheConstants.{CACHED};
 ghost use Rattle.kern_stay.specs.declared.room.TheConstants.{ROOM_NODES};
 ghost use Rattle.kern_event.specs.declared.places.TheConstants as place;
+ghost use Rattle.kern_event.specs.declared.b07_deliver_event.TheConstants as deliver_event;
 ghost use Rattle.kern_event.specs.declared.b08_open_event.TheConstants as open_event;
 ghost use Rattle.kern_event.specs.declared.b09_close_event.TheConstants as close_event;
 ghost use Rattle.kern_event.specs.declared.b0a_wait_event.TheConstants as wait_event;
@@ -17,12 +18,12 @@ ghost use Rattle.kern_event.specs.EventWords.{event_pieces};
 ghost use Rattle.kern_event.specs.EventLaws.{EventServes};
 
 use crate::places::{
-    CLOSE_EVENT, DISABLE_EVENT, ENABLE_EVENT, OPEN_EVENT, ROOM, SYS_DEQ_INT_RP, SYS_ENQ_INT_RP,
-    TEST_EVENT, UNDELIVER_EVENT, WAIT_EVENT,
+    CLOSE_EVENT, DELIVER_EVENT, DISABLE_EVENT, ENABLE_EVENT, OPEN_EVENT, ROOM, SYS_DEQ_INT_RP,
+    SYS_ENQ_INT_RP, TEST_EVENT, UNDELIVER_EVENT, WAIT_EVENT,
 };
 use crate::{
-    b0a_wait_event, b0b_test_event, b08_open_event, b09_close_event, b20_undeliver_event,
-    c02_sys_enq_int_rp, c03_sys_deq_int_rp,
+    b0a_wait_event, b0b_test_event, b07_deliver_event, b08_open_event, b09_close_event,
+    b20_undeliver_event, c02_sys_enq_int_rp, c03_sys_deq_int_rp,
 };
 use kern_layout::KernelBlock;
 use kern_stay::placing::put_listing;
@@ -32,6 +33,7 @@ use kern_stay::room::ROOM_NODES;
 pub fn place(block: &mut KernelBlock)
     ensures { (f : ℕ → ℕ) → IsBlock block.old f → IsBlock block.new (overlaid event_pieces f) }
 {
+    put_listing(block, DELIVER_EVENT, &b07_deliver_event::NODES);
     put_listing(block, SYS_DEQ_INT_RP, &c03_sys_deq_int_rp::NODES);
     put_listing(block, SYS_ENQ_INT_RP, &c02_sys_enq_int_rp::NODES);
     put_listing(block, ROOM, &ROOM_NODES);
@@ -55,7 +57,8 @@ pub fn apart()
     ensures undeliver_event { EndsBy place.UNDELIVER_EVENT undeliver_event.NODES place.ROOM }
     ensures room { EndsBy place.ROOM ROOM_NODES place.SYS_ENQ_INT_RP }
     ensures sys_enq_int_rp { EndsBy place.SYS_ENQ_INT_RP sys_enq_int_rp.NODES place.SYS_DEQ_INT_RP }
-    ensures sys_deq_int_rp { EndsBy place.SYS_DEQ_INT_RP sys_deq_int_rp.NODES (CACHED + EVENT_CODE.to) }
+    ensures sys_deq_int_rp { EndsBy place.SYS_DEQ_INT_RP sys_deq_int_rp.NODES place.DELIVER_EVENT }
+    ensures deliver_event { EndsBy place.DELIVER_EVENT deliver_event.NODES (CACHED + EVENT_CODE.to) }
 {}
 
 /// Where the words stand, each call is served by its listing. It does nothing.

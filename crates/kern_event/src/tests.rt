@@ -1,6 +1,7 @@
 //! Words of the block behind `place`, encoded by hand from the R3000A manual's instruction formats.
 use crate::b0a_wait_event::wait_event;
 use crate::b0b_test_event::test_event;
+use crate::b07_deliver_event::deliver_event;
 use crate::b08_open_event::open_event;
 use crate::b09_close_event::{close_event, disable_event, enable_event};
 use crate::b20_undeliver_event::undeliver_event;
@@ -32,11 +33,16 @@ fn places_the_calls(rt: HostRuntime) -> Result<(), Fail> {
     // SysEnqIntRP and SysDeqIntRP: sltiu t2, a0, 4.
     assert_eq!(rt; block.word(0x2C80), 0x2C8A_0004);
     assert_eq!(rt; block.word(0x2D40), 0x2C8A_0004);
+    // DeliverEvent: lui t6, 8001h; lw ra, EB84h(t6); .. j 80001880h.
+    assert_eq!(rt; block.word(0x2E00), 0x3C0E_8001);
+    assert_eq!(rt; block.word(0x2E04), 0x8DDF_EB84);
+    assert_eq!(rt; block.word(0x2E30), 0x0800_0620);
     Ok(())
 }
 
 #[test]
 fn lends_listings(rt: HostRuntime) {
+    assert_eq!(rt; deliver_event().len(), 13);
     assert_eq!(rt; open_event().len(), 23);
     assert_eq!(rt; close_event().len(), 19);
     assert_eq!(rt; enable_event().len(), 19);

@@ -19,7 +19,8 @@ use Rattle.kern_stay.proofs.Ending.{through, answers}
 use Rattle.kern_stay.proofs.Looping.{Turning, looped}
 use Rattle.kern_thread.specs.declared.places.TheConstants.{OPEN_THREAD}
 use Rattle.kern_thread.specs.declared.b0e_open_thread.TheConstants.{NODES}
-use Rattle.kern_thread.proofs.ThreadsHeld.{status_of, status_is, holds_thread}
+use Rattle.kern_stay.proofs.Slots.{status_of, status_is}
+use Rattle.kern_thread.proofs.ThreadsHeld.{holds_thread}
 use Rattle.kern_thread.proofs.Stores.{stores, stores_there, stores_placed, stores_words, stores_bytes, stores_block, to}
 
 -- the slots from n on, where there is one

@@ -18,7 +18,8 @@ use Rattle.kern_stay.proofs.Ending.{through, answers, refuses_thread}
 use Rattle.kern_stay.proofs.RoomGiven.{true_then, false_then}
 use Rattle.kern_thread.specs.declared.places.TheConstants.{CLOSE_THREAD}
 use Rattle.kern_thread.specs.declared.b0f_close_thread.TheConstants.{NODES}
-use Rattle.kern_thread.proofs.ThreadsHeld.{at_thread, holds_freed, holds_next}
+use Rattle.kern_stay.proofs.Slots.{at_thread}
+use Rattle.kern_thread.proofs.ThreadsHeld.{holds_freed, holds_next}
 
 -- the thread to take up later, where its word names this one, and where not
 same_gone : (n : ℕ) (o : Option ℕ) → next_word o ≡ suc n → other_than n o ≡ None

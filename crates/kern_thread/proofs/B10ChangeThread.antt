@@ -1,5 +1,5 @@
 -- ChangeThread meets its stay.
-use Rattle.psx_flow.proofs.Kit.{◌≡◌, ℕ, suc, ◌+◌, ◌%◌, ◌^◌, ◌<◌, ◌≤◌, inl, inr, [], refl, sym, ap, ◌∙◌, subst, arith, Memory, word, put_word, Run, Meets, calls, kernel_words, fair, start, ◌++◌, true, false}
+use Rattle.psx_flow.proofs.Kit.{◌≡◌, ℕ, suc, ◌+◌, ◌%◌, ◌^◌, ◌<◌, ◌≤◌, [], refl, sym, ap, ◌∙◌, subst, arith, Memory, word, put_word, Run, Meets, calls, kernel_words, fair, start, ◌++◌, true, false}
 use Rattle.std.proofs.Common.{length, List, ◌∷◌, ne_eqb, eq-eqb}
 use Rattle.std.proofs.lemmas.List.{get_or_past}
 use Rattle.std.specs.Prelude.{Bool, Some, None, nat_eq, if◌then◌else◌}
@@ -10,7 +10,7 @@ use Rattle.psx_flow.specs.Told.{ports}
 use Rattle.kern_layout.specs.Reads.{thread, thread_at, next_word}
 use Rattle.abs_kernel.specs.Stay.{Stay, Return}
 use Rattle.abs_kernel.specs.Answered.{registers_of, with_running, answered}
-use Rattle.abs_kernel.specs.Switching.{switched}
+use Rattle.abs_kernel.specs.Switching.{caller, switched}
 use Rattle.abs_kernel.specs.Threads.{number_of, is_used, bad_thread}
 use Rattle.abs_kernel.specs.ChangeThread.{with_next, changes_to, change_thread}
 use Rattle.abs_kernel.specs.declared.calls.CallId.TheVariants.{B10}
@@ -21,57 +21,21 @@ use Rattle.kern_stay.specs.Shared.{tree, tested_there}
 use Rattle.kern_stay.specs.Copy.{WordsCopied}
 use Rattle.kern_stay.specs.Switch.{settle_area, SlotKept}
 use Rattle.kern_stay.specs.Doors.{Holds, Ends, Arrives, Through, Serves, called_with, begun, most_steps}
-use Rattle.kern_stay.specs.CopyHalf.{Halves}
-use Rattle.kern_stay.proofs.CopyingHalf.{KnowsHalf, knows_half, both_copied}
-use Rattle.kern_stay.proofs.Switching.{made, rests, rest_taken}
+use Rattle.kern_stay.proofs.CopyingHalf.{KnowsHalf, knows_half}
+use Rattle.kern_stay.proofs.Switching.{made, rests, rest_taken, caller_rests, settled_holds}
 use Rattle.kern_stay.proofs.Ending.{through, answers, refuses_thread}
 use Rattle.kern_stay.proofs.RoomGiven.{true_then, false_then}
 use Rattle.kern_stay.specs.declared.places.TheConstants.{WAIT}
 use Rattle.kern_thread.specs.Own.{own}
 use Rattle.kern_thread.specs.declared.places.TheConstants.{CHANGE_THREAD, COPY_HALF}
 use Rattle.kern_thread.specs.declared.b10_change_thread.TheConstants.{NODES}
-use Rattle.kern_thread.proofs.ThreadsHeld.{block_of, at_thread, status_of, status_is, used_as, holds_next}
-
--- the first copy is made where the slot's status is that of a used one
-kept_used : (m n : Memory) (at : ℕ) (t : Thread) → status_of t ≡ 0x4000 → WordsCopied m n 0xEB0C (at + 0xC) 35 → SlotKept t m n at
-kept_used m n at Free e h = absurd (omega (arith, e))
-kept_used m n at (Used u) e h = h
-
-kept_free : (m : Memory) (at : ℕ) (t : Thread) → (status_of t ≡ 0x4000 → ⊥) → SlotKept t m m at
-kept_free m at Free ne = refl
-kept_free m at (Used u) ne = absurd (ne refl)
+use Rattle.kern_stay.proofs.FramePopped.{no_frames}
+use Rattle.kern_stay.proofs.Slots.{block_of, at_thread, status_of, status_is, used_as, kept_used, kept_free, slot_halves}
+use Rattle.kern_thread.proofs.ThreadsHeld.{holds_next}
 
 free_is : (t : Thread) → (status_of t ≡ 0x4000 → ⊥) → is_used t ≡ false
 free_is Free ne = refl
 free_is (Used u) ne = absurd (ne refl)
-
--- the halves of the work area's context and of a slot's, as they are copied
-record SlotHalves (p : ℕ) : Type 0 where
-  kept : Halves 0xEB0C (p + 0xC)
-  kept_on : Halves (0xEB0C + 68) (p + 0xC + 68)
-  kept_whole : (x y z : Memory) → WordsCopied x y 0xEB0C (p + 0xC) 18 → WordsCopied y z (0xEB0C + 68) (p + 0xC + 68) 18 → WordsCopied x z 0xEB0C (p + 0xC) 35
-  taken : Halves (p + 0xC) 0xEB0C
-  taken_on : Halves (p + 0xC + 68) (0xEB0C + 68)
-  taken_whole : (x y z : Memory) → WordsCopied x y (p + 0xC) 0xEB0C 18 → WordsCopied y z (p + 0xC + 68) (0xEB0C + 68) 18 → WordsCopied x z (p + 0xC) 0xEB0C 35
-
-slot_halves : (n : ℕ) → n < 16 → SlotHalves (thread_at n)
-slot_halves n lt =
-    let p : ℕ = thread_at n in
-    let even : p % 4 ≡ 0 = omega arith in
-    let low : 0xB000 ≤ p = omega arith in
-    let high : p + 0xC0 ≤ 0xBC00 = omega (arith, lt) in
-    record {
-      kept = record { even = (refl, omega (arith, even)); low = (omega arith, omega (arith, low)); high = (omega arith, omega (arith, high)); apart = inr (omega (arith, high)) };
-      kept_on = record { even = (refl, omega (arith, even)); low = (omega arith, omega (arith, low)); high = (omega arith, omega (arith, high)); apart = inr (omega (arith, high)) };
-      kept_whole = λ x y z. both_copied x y z 0xEB0C (p + 0xC) (refl, omega (arith, even)) (inr (omega (arith, high)));
-      taken = record { even = (omega (arith, even), refl); low = (omega (arith, low), omega arith); high = (omega (arith, high), omega arith); apart = inl (omega (arith, high)) };
-      taken_on = record { even = (omega (arith, even), refl); low = (omega (arith, low), omega arith); high = (omega (arith, high), omega arith); apart = inl (omega (arith, high)) };
-      taken_whole = λ x y z. both_copied x y z (p + 0xC) 0xEB0C (omega (arith, even), refl) (inl (omega (arith, high)));
-    }
-
-no_frames : (fs : List Frame) → length fs ≡ 0 → fs ≡ []
-no_frames [] e = refl
-no_frames (f ∷ fs) e = absurd (omega (arith, e))
 
 module _ (s : KernelState) (m : Memory) (h : Arrives s m) (n : ℕ) (number : number_of (registers_of s).r4 ≡ n) where
   -- the stay, by what the slot is
@@ -92,7 +56,9 @@ module _ (s : KernelState) (m : Memory) (h : Arrives s m) (n : ℕ) (number : nu
         → (filled : Memory) → WordsCopied kept filled (thread_at n + 0xC) 0xEB0C 35 → (e : Run) → e.bytes ≡ put_word filled 0xEA00 n → ports e.seen ≡ [] → e.steps ≤ 8192
         → Through stay most_steps WAIT e
     done none kept k filled f e bytes quiet small =
-        let r = rests s h.valid m h.holds n few other used kept k filled f in
+        let at_rest = caller_rests s in
+        let ready_holds = settled_holds s h.valid m h.holds in
+        let r = rests s h.valid (caller s) at_rest ready ready_holds n few other used kept k filled f in
         let is : stay ≡ Return (switched s n) = stay_by true (ap is_used used) ∙ ap (changes_to s n) none in
         through stay most_steps WAIT e quiet (subst (λ x. Ends 128 x most_steps WAIT e) (sym is) (
           small,
@@ -100,7 +66,7 @@ module _ (s : KernelState) (m : Memory) (h : Arrives s m) (n : ℕ) (number : nu
             state = switched s n;
             out = r.no_slot;
             is = ap (with_running (switched s n)) (rest_taken (switched s n).running.context r);
-            holds = subst (Holds (switched s n)) (sym bytes) (made s h.valid m h.holds n few other used kept k filled f);
+            holds = subst (Holds (switched s n)) (sym bytes) (made s h.valid (caller s) at_rest ready ready_holds n few other used kept k filled f);
           },
         ))
 

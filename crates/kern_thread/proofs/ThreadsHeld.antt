@@ -1,59 +1,21 @@
 -- The threads' blocks in memory, while the kernel runs.
-use Rattle.std.proofs.Common.{◌≡◌, ℕ, ◌+◌, ◌*◌, ◌%◌, ◌^◌, ◌<◌, ◌≤◌, ◌⊎◌, inl, inr, length, refl, sym, ap, ◌∙◌, subst, arith, ⊎_elim, true}
+use Rattle.std.proofs.Common.{◌≡◌, ℕ, ◌+◌, ◌%◌, ◌<◌, ◌≤◌, ◌⊎◌, inl, inr, length, refl, sym, ap, ◌∙◌, subst, arith, ⊎_elim, true}
 use Rattle.std.specs.Prelude.{Option}
 use Rattle.psx_base.specs.Memory.{Memory, byte, word, put_word}
-use Rattle.psx_base.specs.Addresses.{place}
-use Rattle.psx_base.specs.KernelState.{Thread, Free, Used, ThreadContext, KernelState}
+use Rattle.psx_base.specs.KernelState.{Thread, Free, KernelState}
 use Rattle.psx_ram.specs.Apart.{apart}
 use Rattle.psx_ram.proofs.Laws.{byte-put_word_apart}
-use Rattle.psx_flow.proofs.Log.{Kernel, word_sort}
 use Rattle.kern_layout.specs.Fields.{Block}
 use Rattle.kern_layout.specs.Contexts.{saved, thread_fields}
 use Rattle.kern_layout.specs.Stores.{with_thread}
-use Rattle.kern_layout.specs.Reads.{thread, thread_at, next_word}
+use Rattle.kern_layout.specs.Reads.{thread_at, next_word}
 use Rattle.kern_layout.specs.Valid.{Valid}
 use Rattle.kern_layout.proofs.Blocks.{block_same, put_here, put_other}
 use Rattle.kern_layout.proofs.MemoryStored.{word_stored}
 use Rattle.kern_layout.proofs.Written.{reads_thread}
 use Rattle.abs_kernel.proofs.Threaded.{ThreadsFit, valid_threaded}
 use Rattle.kern_stay.specs.Doors.{Holds}
-use Rattle.kern_stay.proofs.Copying.{data_place, data_sort}
 use Rattle.kern_stay.proofs.Holding.{user_high, holds_variable}
-
--- ---- a thread's block
-
--- its address, as it is computed
-abbrev pub block_of : ℕ → ℕ
-block_of n = (((n * 2 ^ 7 % 2 ^ 32 + n * 2 ^ 6 % 2 ^ 32) % 2 ^ 32 + 0x80010000) % 2 ^ 32 + 0xFFFFB000) % 2 ^ 32
-
-pub record At (n : ℕ) : Type 0 where
-  pub block : block_of n ≡ 0x80000000 + thread_at n
-  pub here : (0x80000000 + thread_at n + 0) % 2 ^ 32 ≡ 0x80000000 + thread_at n
-  pub sort : word_sort (0x80000000 + thread_at n) ≡ Kernel
-  pub place : place (0x80000000 + thread_at n) ≡ thread_at n
-
-pub at_thread : (n : ℕ) → n < 16 → At n
-at_thread n lt = record { block = omega arith; here = omega arith; sort = data_sort (thread_at n) (omega arith) (omega arith) (omega arith); place = data_place (thread_at n) (omega arith) }
-
--- the status there
-abbrev pub status_of : Thread → ℕ
-status_of Free = 0x1000
-status_of (Used t) = 0x4000
-
-block_status : (w : ℕ → ℕ) (at c n : ℕ) (t : Thread) → Block w at (thread_fields c n t) → w at ≡ status_of t
-block_status w at c n Free b = let z : at + 0 ≡ at = omega arith in sym (ap w z) ∙ b.0
-block_status w at c n (Used t) b = let z : at + 0 ≡ at = omega arith in sym (ap w z) ∙ b.0
-
-pub status_is : (s : KernelState) (m : Memory) → Holds s m → (n : ℕ) → n < length s.threads → word m (thread_at n) ≡ status_of (thread s n)
-status_is s m h n few = block_status (word m) (thread_at n) s.current n (thread s n) (h.reads.threads n few)
-
-pub record UsedAs (t : Thread) : Type 0 where
-  pub context : ThreadContext
-  pub is : t ≡ Used context
-
-pub used_as : (t : Thread) → status_of t ≡ 0x4000 → UsedAs t
-used_as Free e = absurd (omega (arith, e))
-used_as (Used t) e = record { context = t; is = refl }
 
 -- ---- stores
 

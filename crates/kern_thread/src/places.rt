@@ -1,8 +1,9 @@
 //! Where the routines stand, in the cached segment, in which the kernel runs, and the kernel's data as the listings reach it.
 use kern_layout::places::{
-    CURRENT, FRAME_COUNT, NEXT as NEXT_PLACE, THREAD_COUNT, THREAD_FREE, THREAD_USED, WORK_AREA,
+    CURRENT, FRAME_COUNT, FRAME_ELEMENT_COUNT, FRAME_KIND, FRAME_LINE_COUNT, NEXT as NEXT_PLACE,
+    SAVED_REGISTERS, THREAD_COUNT, THREAD_FREE, THREAD_USED, WORK_AREA,
 };
-use kern_layout::ranges::{THREAD_CODE, THREADS};
+use kern_layout::ranges::{FRAMES as FRAMES_RANGE, THREAD_CODE, THREADS};
 use kern_stay::places::CACHED;
 
 /// The listing of ChangeThread.
@@ -16,6 +17,9 @@ pub const CLOSE_THREAD: u32 = COPY_HALF + 0xC0;
 
 /// The listing of OpenThread.
 pub const OPEN_THREAD: u32 = CLOSE_THREAD + 0x80;
+
+/// The listing of ReturnFromException.
+pub const RETURN_FROM_EXCEPTION: u32 = OPEN_THREAD + 0x100;
 
 /// The upper half of the handles.
 pub const HANDLES: u16 = 0xFF00;
@@ -55,3 +59,18 @@ pub const AREA_PC: u16 = (WORK_AREA + 0x88) as u16;
 
 /// Where the words of a context begin, in the work area.
 pub const AREA_CONTEXT: u16 = (WORK_AREA + 0xC) as u16;
+
+/// The lower half of the first frame.
+pub const FRAME_BLOCKS: u16 = FRAMES_RANGE.from as u16;
+
+/// In a frame: where the words of a context begin.
+pub const CONTEXT: u16 = SAVED_REGISTERS as u16 + 4;
+
+/// The work area's place of the kind by which its tasks begin.
+pub const AREA_KIND: u16 = (WORK_AREA + FRAME_KIND) as u16;
+
+/// That of the number of its elements.
+pub const AREA_ELEMENT_COUNT: u16 = (WORK_AREA + FRAME_ELEMENT_COUNT) as u16;
+
+/// That of the number of its lines.
+pub const AREA_LINE_COUNT: u16 = (WORK_AREA + FRAME_LINE_COUNT) as u16;

@@ -2,6 +2,7 @@
 use crate::b0e_open_thread::open_thread;
 use crate::b0f_close_thread::close_thread;
 use crate::b10_change_thread::change_thread;
+use crate::b17_return_from_exception::return_from_exception;
 use crate::place;
 use crate::placing::{apart, thread_serves};
 use kern_layout::KernelBlock;
@@ -19,6 +20,9 @@ fn places_the_calls(rt: HostRuntime) -> Result<(), Fail> {
     // OpenThread: lui t6, 8001h; behind a load or t5, zero, zero.
     assert_eq!(rt; block.word(0x2240), 0x3C0E_8001);
     assert_eq!(rt; block.word(0x2248), 0x0000_6825);
+    // ReturnFromException: lui t6, 8001h; lw t4, EA08h(t6).
+    assert_eq!(rt; block.word(0x2340), 0x3C0E_8001);
+    assert_eq!(rt; block.word(0x2344), 0x8DCC_EA08);
     Ok(())
 }
 
@@ -27,6 +31,7 @@ fn lends_listings(rt: HostRuntime) {
     assert_eq!(rt; open_thread().len(), 55);
     assert_eq!(rt; close_thread().len(), 22);
     assert_eq!(rt; change_thread().len(), 52);
+    assert_eq!(rt; return_from_exception().len(), 21);
 }
 
 #[test]

@@ -1,4 +1,4 @@
 use Rattle.kern_event.proofs.placing.place.Goals as goal
 
 pub returns : goal.returns
-returns c = λ f r. c.put_listing-10.ensures _ (c.put_listing-9.ensures _ (c.put_listing-8.ensures _ (c.put_listing-7.ensures _ (c.put_listing-6.ensures _ (c.put_listing-5.ensures _ (c.put_listing-4.ensures _ (c.put_listing-3.ensures _ (c.put_listing-2.ensures _ (c.put_listing.ensures _ (r))))))))))
+returns c = λ f r. c.put_listing-11.ensures _ (c.put_listing-10.ensures _ (c.put_listing-9.ensures _ (c.put_listing-8.ensures _ (c.put_listing-7.ensures _ (c.put_listing-6.ensures _ (c.put_listing-5.ensures _ (c.put_listing-4.ensures _ (c.put_listing-3.ensures _ (c.put_listing-2.ensures _ (c.put_listing.ensures _ r))))))))))
