@@ -1,0 +1,3 @@
+pub mod TimerWords
+pub mod TimerLaws
+pub mod Laws
