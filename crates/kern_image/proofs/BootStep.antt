@@ -1,6 +1,6 @@
 -- One step of the boot code, by the word at pc.
-use Rattle.std.proofs.Common.{◌≡◌, ℕ, ◌+◌, ◌*◌, ◌/◌, ◌%◌, ◌^◌, ◌<◌, List, Bool, true, false, Option, Some, None, refl, ap, ◌∙◌, arith, eq-eqb, ne_eqb}
-use Rattle.std.specs.Prelude.{nat_eq, ◌&&◌, ◌||◌, slice_index, if◌then◌else◌}
+use Rattle.std.proofs.Common.{◌≡◌, ℕ, ◌+◌, ◌*◌, ◌%◌, ◌^◌, ◌<◌, List, true, false, Some, None, ap, ◌∙◌, arith}
+use Rattle.std.specs.Prelude.{nat_eq, ◌||◌, slice_index, if◌then◌else◌}
 use Rattle.psx_ins.specs.declared.ins.Ins.{Ins}
 use Rattle.psx_ins.specs.Decoding.{instruction_of}
 use Rattle.psx_base.specs.Memory.{Memory, byte, word, is_mapped, is_writable}
@@ -8,7 +8,7 @@ use Rattle.psx_base.specs.Addresses.{top, low, place}
 use Rattle.psx_base.specs.PortAddresses.{port}
 use Rattle.psx_base.specs.Context.{Context}
 use Rattle.psx_ram.specs.Words.{word_at}
-use Rattle.psx_cpu.specs.Processor.{Core, Cop0, Bus, Processor}
+use Rattle.psx_cpu.specs.Processor.{Cop0, Bus}
 use Rattle.psx_cpu.specs.DataAccess.{read_word}
 use Rattle.psx_cpu.specs.Traps.{data_use, use_trap, own_trap, or_else}
 use Rattle.psx_cpu.specs.Step.{executed, step}

@@ -18,11 +18,17 @@ pub mod StaysMade
 pub mod StaysStage
 pub mod StaysStand
 pub mod StaysDoors
+pub mod StaysThrough
 pub mod StaysServed
+pub mod StaysWork
 pub mod StaysLoops
+pub mod StaysStages
 pub mod StaysEnter
 pub mod StaysHeld
 pub mod StaysBounds
 pub mod StaysCalls
 pub mod ServesEvery
 pub mod StaysAll
+pub mod FinishSteps
+pub mod FinishStages
+pub mod FinishServed

@@ -1,19 +1,24 @@
 -- Each entry by its stay.
-use Rattle.std.proofs.Common.{◌≡◌, ℕ, suc, ◌+◌, ◌-◌, ◌≤◌, List, [], false, refl, sym, ap, ◌∙◌, subst, arith, inl, inr}
+use Rattle.std.proofs.Common.{◌≡◌, ℕ, suc, ◌+◌, ◌-◌, ◌^◌, ◌<◌, List, [], false, None, refl, sym, ap, ◌∙◌, subst, arith, inl, inr}
 use Rattle.psx_base.specs.declared.ports.TheConstants.{HALT_A, HALT_B, HALT_C}
-use Rattle.psx_base.specs.Context.{settle}
+use Rattle.psx_base.specs.Registers.{register}
+use Rattle.psx_base.specs.Context.{settle, epc_of}
 use Rattle.psx_base.specs.Memory.{Memory, byte, word}
 use Rattle.psx_base.specs.KernelState.{KernelState}
 use Rattle.psx_cpu.specs.Processor.{Core, Trap}
 use Rattle.psx_cpu.specs.Exceptions.{enter}
 use Rattle.psx_flow.specs.Run.{Access}
 use Rattle.psx_flow.specs.Told.{ports}
+use Rattle.kern_layout.specs.Reads.{Reads}
 use Rattle.kern_layout.specs.Stands.{SameUser, Stands, HoldsRom}
 use Rattle.kern_layout.specs.Valid.{Valid}
 use Rattle.kern_layout.proofs.Written.{reads_free}
-use Rattle.abs_kernel.specs.Calls.{call}
 use Rattle.abs_kernel.specs.Cause.{entry_of}
 use Rattle.abs_kernel.specs.KernelStep.{settled_state, stay_of}
+use Rattle.abs_kernel.specs.Interrupt.{interrupted}
+use Rattle.abs_kernel.specs.Answered.{registers_of}
+use Rattle.abs_kernel.proofs.Interrupted.{interrupted_valid}
+use Rattle.abs_kernel.proofs.Ending.{at_rest}
 use Rattle.abs_kernel.specs.Stay.{Stay}
 use Rattle.abs_kernel.proofs.Ends.{valid_kept}
 use Rattle.abs_kernel.proofs.Moved.{valid_moved}
@@ -21,22 +26,22 @@ use Rattle.abs_run.specs.InWords.{ContextFits, CoreFits}
 use Rattle.abs_run.specs.InKernel.{InKernel, side_of}
 use Rattle.abs_run.specs.Entered.{MayEnter, bound_of}
 use Rattle.abs_run.specs.Serves.{Runs, entered}
-use Rattle.abs_run.proofs.WordsKept.{settle-fits}
+use Rattle.abs_run.proofs.WordsKept.{settle-fits, taken-fits, epc-word}
 use Rattle.kern_stay.specs.Follows.{after, Follows, given}
 use Rattle.kern_stay.specs.Doors.{Holds, Arrives}
 use Rattle.kern_stay.proofs.Telling.{after_ports, follows_ports, given_ports}
-use Rattle.kern_entry.specs.EntryLaws.{AtRoutine, Begins}
+use Rattle.kern_entry.specs.EntryLaws.{Routine, OfCall, OfBack, OfDelivery, OfInterrupt, stay_by, entered_by, AtRoutine, Begins}
 use Rattle.kern_entry.proofs.Whole.{stays_begin}
 use Rattle.kern_image.specs.Rom.{rom}
 use Rattle.kern_image.specs.StaysLaws.{MakesStays}
 use Rattle.kern_image.specs.Tables.{routine_of}
-use Rattle.kern_image.proofs.StaysBounds.{most_of, steps_left}
-use Rattle.kern_image.proofs.StaysServed.{serving_more}
+use Rattle.kern_image.proofs.StaysBounds.{limit_by, steps_left}
+use Rattle.kern_image.proofs.StaysRuns.{runs_least}
 use Rattle.kern_image.proofs.StaysMade.{Shows, made_shows}
 use Rattle.kern_image.proofs.StaysStage.{aimed_shows, going_shows}
 use Rattle.kern_image.proofs.StaysStand.{back, bound_by_least, spared_user, spared_word, fixed_below}
 use Rattle.kern_image.proofs.StaysDoors.{at_core, IsValid}
-use Rattle.kern_image.proofs.StaysCalls.{served}
+use Rattle.kern_image.proofs.StaysCalls.{Asks, routine_served}
 use Rattle.kern_image.proofs.StaysEnter.{may_enter}
 use Rattle.kern_image.proofs.StaysHeld.{holds_entry, tables_read}
 
@@ -50,11 +55,42 @@ module _ (k : Core) (s : KernelState) (trap : Trap) (a b c : ℕ) (valid : Valid
   valid_t : Valid t
   valid_t = valid_moved s s.memory s.random (record s.running { context = settle s.running.context }) valid (record { follows = valid.running.follows; branch = valid.running.branch })
 
-  arrived : (n : Memory) → s.running.context.in_slot ≡ false → Holds t n → Arrives t n
-  arrived n out h = record { valid = valid_t; out = out; holds = h; words = (settle-fits s.running.context (subst ContextFits stands.context fits.context)).regs.general }
+  -- the state in which a routine is entered differs from the settled one in the running context alone
+  record Entered (u : KernelState) : Type 0 where
+    is : u ≡ record s { running = u.running }
+    as_valid : Valid u
+    settled : u.running.context.pending ≡ None
+    words : (n : ℕ) → register (registers_of u) n < 2 ^ 32
 
-  held : (j : Core) (q : List Access) (x : AtRoutine routine_of k.bytes s trap.code stay j q) → Holds t j.bytes
+  in_words : ContextFits t.running.context
+  in_words = settle-fits s.running.context (subst ContextFits stands.context fits.context)
+
+  of_settled : Entered t
+  of_settled = record { is = refl; as_valid = valid_t; settled = refl; words = in_words.regs.general }
+
+  of_interrupted : Entered (interrupted t)
+  of_interrupted = record { is = refl; as_valid = interrupted_valid t valid_t; settled = refl; words = (taken-fits t.running.context (epc_of t.running.context) in_words (epc-word t.running.context in_words)).regs.general }
+
+  entered_in : (r : Routine) → Entered (entered_by r s)
+  entered_in (OfCall id) = of_settled
+  entered_in OfBack = of_settled
+  entered_in OfDelivery = of_settled
+  entered_in OfInterrupt = of_interrupted
+
+  module _ (n : Memory) (code : HoldsRom n rom) where
+    asked : (r : Routine) → Asks n code r (entered_by r s)
+    asked (OfCall id) = tt
+    asked OfBack = tt
+    asked OfDelivery = tt
+    asked OfInterrupt = at_rest t.running.context (epc_of t.running.context)
+
+  arrived : (u : KernelState) → Entered u → (n : Memory) → u.running.context.in_slot ≡ false → Holds u n → Arrives u n
+  arrived u e n out h = record { valid = e.as_valid; out = out; holds = h; words = e.words }
+
+  held : (j : Core) (q : List Access) (x : AtRoutine routine_of k.bytes s trap.code stay j q) → Holds (entered_by x.routine s) j.bytes
   held j q x =
+      let u : KernelState = entered_by x.routine s in
+      let e = entered_in x.routine in
       let few = valid.frames_most in
       let r = reads_free s valid (word k.bytes) (word j.bytes) (byte k.bytes) (byte j.bytes)
       (λ p low high. x.spared p (inl (omega arith)))
@@ -62,12 +98,9 @@ module _ (k : Core) (s : KernelState) (trap : Trap) (a b c : ℕ) (valid : Valid
       (λ p even low high. spared_word k.bytes j.bytes x.spared p even (omega arith))
       (λ p even low high. spared_word k.bytes j.bytes x.spared p even (omega arith))
       stands.reads in
-      record {
-        settled = refl;
-        area = x.area;
-        reads = record { threads = r.threads; events = r.events; frames = r.frames; chains = r.chains; heap = r.heap; files = r.files; line = r.line; variables = r.variables };
-        user = spared_user k.bytes j.bytes s.memory stands.user x.spared;
-      }
+      let P : KernelState → Type 0 = λ v. Reads v (word j.bytes) (byte j.bytes) × SameUser j.bytes v.memory in
+      let p : P u = subst P (sym e.is) (record { threads = r.threads; events = r.events; frames = r.frames; chains = r.chains; heap = r.heap; files = r.files; line = r.line; variables = r.variables }, spared_user k.bytes j.bytes s.memory stands.user x.spared) in
+      record { settled = e.settled; area = x.area; reads = p.0; user = p.1 }
 
   -- accesses to no port
   quiet_shows : (n : ℕ) (j : Core) (q : List Access) → ports q ≡ [] → Runs rom stay n (at_core rom a b c j) → Shows rom stay a b c n j q
@@ -90,13 +123,14 @@ module _ (k : Core) (s : KernelState) (trap : Trap) (a b c : ℕ) (valid : Valid
       (λ stop memory i e sp. spared_user k.bytes i.bytes memory (subst (SameUser k.bytes) (sym e) stands.user) sp) left j q y.1
   shown j q (inr x) =
       let code : HoldsRom j.bytes rom = λ p f. (let low = fixed_below p f in x.spared p (inl (omega arith))) ∙ stands.code p f in
-      let ok : IsValid (call x.id t) = subst IsValid x.is (valid_kept s trap.code valid) in
+      let r : Routine = x.routine in
+      let u : KernelState = entered_by r s in
+      let ok : IsValid (stay_by r u) = subst IsValid x.is (valid_kept s trap.code valid) in
       let e = entry_of s.running.context trap.code in
-      let few = steps_left e.gate e.number x.id x.made in
-      let less : 73 + most_of x.id ≤ suc left = omega (arith, few) in
-      let r = serving_more rom j.bytes (holds_entry j.bytes code) code (73 + most_of x.id) (suc left) (call x.id) (routine_of x.id) less (served j.bytes code x.id) a b c t x.regs x.cop0 ok (arrived j.bytes x.out (held j q x)) x.off in
-      let r2 : Runs rom (call x.id t) (suc left) (at_core rom a b c j) = subst (λ y. Runs rom (call x.id t) (suc left) (at_core rom a b c y)) (sym x.core) r in
-      quiet_shows (suc left) j q x.quiet (subst (λ y. Runs rom y (suc left) (at_core rom a b c j)) (sym x.is) r2)
+      let few = steps_left e.gate e.number r x.by in
+      let made = runs_least rom (stay_by r u) (limit_by r) (suc left) _ (omega (arith, few)) (routine_served j.bytes code r a b c u x.regs x.cop0 ok (arrived u (entered_in r) j.bytes x.out (held j q x)) (asked j.bytes code r) x.off) in
+      let there : Runs rom (stay_by r u) (suc left) (at_core rom a b c j) = subst (λ y. Runs rom (stay_by r u) (suc left) (at_core rom a b c y)) (sym x.core) made in
+      quiet_shows (suc left) j q x.quiet (subst (λ y. Runs rom y (suc left) (at_core rom a b c j)) (sym x.is) there)
 
   pub stay_served : Runs rom stay (bound_of s trap.code) (entered k trap a b c)
   stay_served =

@@ -1,6 +1,6 @@
 -- How many steps a routine may make, by its call's table and number, and that an entry leaves it so many.
-use Rattle.std.proofs.Common.{◌≡◌, ℕ, ◌+◌, ◌≤◌, Bool, true, false, cond, List, [], ◌∷◌, Option, Some, None, refl, sym, ap, ◌∙◌, subst, arith}
-use Rattle.std.specs.Prelude.{◌&&◌, nat_eq, nat_le, find, option_map, unwrap_or, if◌then◌else◌}
+use Rattle.std.proofs.Common.{◌≡◌, ℕ, zero, suc, ◌+◌, ◌≤◌, Bool, true, false, cond, List, [], ◌∷◌, Option, Some, None, refl, sym, ap, ◌∙◌, subst, arith}
+use Rattle.std.specs.Prelude.{◌&&◌, nat_eq, nat_le, find, max, option_map, unwrap_or, if◌then◌else◌}
 use Rattle.std.specs.List.{list_all}
 use Rattle.std.proofs.lemmas.Bool.{and_parts, eqb-true}
 use denote.Enum.Bare.{same_true}
@@ -12,8 +12,10 @@ use Rattle.abs_kernel.specs.declared.calls.CallId.{CallId}
 use Rattle.abs_kernel.specs.declared.calls.TheConstants.{ROWS}
 use Rattle.abs_kernel.specs.CallTable.{Row, same_table, same_call}
 use Rattle.abs_run.specs.Entered.{is_heap_number, bound_by}
-use Rattle.kern_stay.specs.Doors.{most_steps, most_heap_steps}
-use Rattle.kern_entry.specs.EntryLaws.{called_by}
+use Rattle.abs_kernel.specs.CallTable.{served_call}
+use Rattle.kern_stay.specs.Doors.{most_steps, most_heap_steps, most_back_steps, most_interrupt_steps}
+use Rattle.kern_entry.specs.EntryLaws.{Routine, OfCall, OfBack, OfDelivery, OfInterrupt, routine_by}
+use Rattle.kern_image.proofs.StaysServed.{work_limit}
 
 -- the heap's calls have more
 abbrev pub most_at : Table → (number : ℕ) → ℕ
@@ -48,17 +50,43 @@ found_most T n id (row ∷ rows) all h =
         ap (λ o. most_of (unwrap_or o id)) (sym e) ∙ own ∙ ap (λ t. most_at t row.1) (same_true tables.the_type tt row.0 T at.0) ∙ ap (most_at T) (eqb-true row.1 n at.1)
     go false here own later e = later e
 
--- An entry that makes a call leaves its routine its bound, 202 steps before it and 73 behind its door.
-pub steps_left : (by : Entrance) (number : ℕ) (id : CallId) → called_by by number ≡ Some id → 275 + most_of id ≤ bound_by by number
-steps_left ByA number id h = subst (λ n. 275 + n ≤ bound_by ByA number) (sym (found_most A number id ROWS refl h)) (go (is_heap_number number))
+-- ---- with the steps behind a routine's end, and those behind WORK, to which a routine comes within the steps of a call
+
+abbrev pub limit_for : (most : ℕ) → ℕ
+limit_for most = max (73 + most) (most_steps + work_limit)
+
+abbrev pub limit_by : Routine → ℕ
+limit_by (OfCall id) = limit_for (most_of id)
+limit_by OfBack = limit_for most_back_steps
+limit_by OfDelivery = limit_for most_back_steps
+limit_by OfInterrupt = limit_for most_interrupt_steps
+
+-- an entry leaves its routine so many, 202 steps behind the vector
+abbrev LeavesAll : Entrance → (number : ℕ) → Routine → Type 0
+LeavesAll by number r = 202 + limit_by r ≤ bound_by by number
+
+by_call : (T : Table) (by : Entrance) (number : ℕ) → (202 + limit_for (most_at T number) ≤ bound_by by number) → (o : Option CallId) → served_call T number ≡ o → (r : Routine) → option_map OfCall o ≡ Some r → LeavesAll by number r
+by_call T by number few None found r h = absurd (cc)
+by_call T by number few (Some id) found r h =
+    subst (LeavesAll by number) (ap (λ o. unwrap_or o OfBack) h) (subst (λ n. 202 + limit_for n ≤ bound_by by number) (sym (found_most T number id ROWS refl found)) few)
+
+other : (by : Entrance) (number : ℕ) (r r' : Routine) → LeavesAll by number r → Some r ≡ Some r' → LeavesAll by number r'
+other by number r r' few h = subst (LeavesAll by number) (ap (λ o. unwrap_or o OfBack) h) few
+
+pub steps_left : (by : Entrance) (number : ℕ) (r : Routine) → routine_by by number ≡ Some r → LeavesAll by number r
+steps_left ByA number r h = by_call A ByA number (go (is_heap_number number)) (served_call A number) refl r h
   where
-    go : (b : Bool) → 275 + (if b then most_heap_steps else most_steps) ≤ (if b then 36864 else 20480)
+    go : (b : Bool) → 202 + limit_for (if b then most_heap_steps else most_steps) ≤ (if b then 36864 else 20480)
     go true = omega arith
     go false = omega arith
-steps_left ByB number id h = subst (λ n. 275 + n ≤ 20480) (sym (found_most B number id ROWS refl h)) (omega arith)
-steps_left ByC number id h = subst (λ n. 275 + n ≤ 20480) (sym (found_most C number id ROWS refl h)) (omega arith)
-steps_left BySyscall number id h = absurd (cc)
-steps_left ByInterrupt number id h = absurd (cc)
-steps_left ByDone number id h = absurd (cc)
-steps_left ByBack number id h = absurd (cc)
-steps_left ByTrap number id h = absurd (cc)
+steps_left ByB number r h = by_call B ByB number (omega arith) (served_call B number) refl r h
+steps_left ByC number r h = by_call C ByC number (omega arith) (served_call C number) refl r h
+steps_left BySyscall zero r h = absurd (cc)
+steps_left BySyscall (suc zero) r h = absurd (cc)
+steps_left BySyscall (suc (suc zero)) r h = absurd (cc)
+steps_left BySyscall (suc (suc (suc zero))) r h = absurd (cc)
+steps_left BySyscall (suc (suc (suc (suc n)))) r h = other BySyscall (suc (suc (suc (suc n)))) OfDelivery r (omega arith) h
+steps_left ByInterrupt number r h = other ByInterrupt number OfInterrupt r (omega arith) h
+steps_left ByDone number r h = absurd (cc)
+steps_left ByBack number r h = other ByBack number OfBack r (omega arith) h
+steps_left ByTrap number r h = absurd (cc)

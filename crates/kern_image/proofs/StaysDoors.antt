@@ -4,10 +4,10 @@ use Rattle.std.specs.Prelude.{nat_eq, nat_le, ◌&&◌, length, if◌then◌else
 use Rattle.std.proofs.Math.Nat.{mul-add}
 use Rattle.std.proofs.lemmas.Bool.{eqb-true, leb-true, lt-ltb, and_parts}
 use Rattle.psx_base.specs.declared.stop.Stop.{Stop}
-use Rattle.psx_base.specs.declared.stop.Stop.TheVariants.{BadPointer, BadThread, Deep}
+use Rattle.psx_base.specs.declared.stop.Stop.TheVariants.{BadPointer, BadThread, BadReturn, Deep}
 use Rattle.psx_base.specs.Context.{taken}
 use Rattle.psx_base.specs.Memory.{Memory, byte, word}
-use Rattle.psx_base.specs.KernelState.{ThreadContext, KernelState}
+use Rattle.psx_base.specs.KernelState.{KernelState}
 use Rattle.psx_cpu.specs.Processor.{Core}
 use Rattle.psx_flow.specs.Kernel.{kernel_words}
 use Rattle.psx_flow.specs.Plain.{kernel_core}
@@ -22,15 +22,14 @@ use Rattle.abs_kernel.specs.Stay.{Stay, Return, Halt, Ask, Tell, Write, Touch}
 use Rattle.abs_kernel.specs.StayLaws.{EachEnd}
 use Rattle.abs_run.specs.InKernel.{InKernel, side_of}
 use Rattle.abs_run.specs.Serves.{Runs}
-use Rattle.kern_stay.specs.declared.places.TheConstants.{LEAVE, WAIT, WORK, BAD_POINTER, BAD_THREAD, DEEP}
-use Rattle.kern_stay.specs.Doors.{Answers, Waits, Works, Refuses, Overflows, AtReturn, AtHalt, AtWork, Ends}
-use Rattle.kern_stay.proofs.Ending.{works_end}
+use Rattle.kern_stay.specs.declared.places.TheConstants.{LEAVE, WAIT, BAD_POINTER, BAD_THREAD, BAD_RETURN, DEEP}
+use Rattle.kern_stay.specs.Doors.{Answers, Waits, Refuses, Overflows, Strays, AtReturn, AtHalt, Ends}
 use Rattle.kern_stay.specs.Words.{Stand}
 use Rattle.kern_entry.specs.Holding.{HoldsEntry}
 use Rattle.kern_entry.specs.EntryWords.{pieces}
 use Rattle.kern_entry.specs.Made.{IsBack, Made}
 use Rattle.kern_entry.specs.Within.{Within}
-use Rattle.kern_entry.proofs.Joins.{leave_returns, wait_returns, work_returns, bad_pointer_stops, bad_thread_stops, deep_stops}
+use Rattle.kern_entry.proofs.Joins.{leave_returns, wait_returns, bad_pointer_stops, bad_thread_stops, bad_return_stops, deep_stops}
 use Rattle.kern_image.proofs.StaysMade.{made_shows}
 use Rattle.kern_image.proofs.StaysStage.{aimed_shows, bare, weight}
 use Rattle.kern_image.proofs.StaysStand.{spared_word, spared_user, fixed_below}
@@ -106,7 +105,7 @@ module _ (rom : List ℕ) (a b c : ℕ) where
   pub entry_kept : (m n : Memory) → ((x : ℕ) → kernel_words x ≡ true → byte n x ≡ byte m x) → HoldsEntry m → HoldsEntry n
   entry_kept m n k h = stand_kept m n k pieces refl h
 
-  rom_kept : (m n : Memory) → ((x : ℕ) → kernel_words x ≡ true → byte n x ≡ byte m x) → HoldsRom m rom → HoldsRom n rom
+  pub rom_kept : (m n : Memory) → ((x : ℕ) → kernel_words x ≡ true → byte n x ≡ byte m x) → HoldsRom m rom → HoldsRom n rom
   rom_kept m n k h x f = k x (lt-ltb x 0xB000 (fixed_below x f)) ∙ h x f
 
   module _ (first : Memory) (words : HoldsEntry first) (code : HoldsRom first rom) where
@@ -151,21 +150,12 @@ module _ (rom : List ℕ) (a b c : ℕ) where
         let P : Stop → Type 0 = λ x. Runs_at (Halt x u) DEEP e in
         subst P (sym h.is) (halt_runs e.bytes u (Deep e.regs.r31) h.user 72 (kernel_core (state_at e DEEP)) (deep_stops e.regs e.cop0 e.bytes u ke.masked (entry_kept first e.bytes ke.bytes words)))
 
-    -- at WORK what is left is a return
-    working : (rest : Stay) → IsValid rest → (e : Run) → Keeps kernel_words first e → Works rest e → Runs_at rest WORK e
-    working rest v e ke h =
-        let c : ThreadContext = h.context in
-        let t : KernelState = record h.state { running = record c { context = taken c.context c.context.pc } } in
-        let is = works_end rest e h in
-        let valid : Valid t = subst IsValid is v in
-        let r = h.holds.reads in
-        let reads : Reads t (word e.bytes) (byte e.bytes) = record { threads = r.threads; events = r.events; frames = r.frames; chains = r.chains; heap = r.heap; files = r.files; line = r.line; variables = r.variables } in
-        subst (λ x. Runs_at x WORK e) (sym is)
-        (return_runs e.bytes t valid reads h.holds.user (rom_kept first e.bytes ke.bytes code) 72 (kernel_core (state_at e WORK))
-        (work_returns e.regs e.cop0 e.bytes c t ke.masked (record { words = entry_kept first e.bytes ke.bytes words; area = h.holds.area; settled = h.holds.settled }) refl))
-
-    pub at_work : (rest : Stay) → IsValid rest → (most to : ℕ) (e : Run) → Keeps kernel_words first e → AtWork rest most to e → Runs_at rest to e
-    at_work rest v most to e ke h = subst (λ n. Runs_at rest n e) (sym h.0) (working rest v e ke h.2)
+    strays : (stop : Stop) (u : Memory) (e : Run) → Keeps kernel_words first e → Strays stop u e → Runs_at (Halt stop u) BAD_RETURN e
+    strays stop u e ke h =
+        let s : KernelState = h.state in
+        let P : Stop → Type 0 = λ x. Runs_at (Halt x u) BAD_RETURN e in
+        subst P (sym h.is) (halt_runs e.bytes u (BadReturn (registers_of s).r31) (subst (SameUser e.bytes) (sym h.memory_is) h.holds.user) 72 (kernel_core (state_at e BAD_RETURN))
+        (bad_return_stops e.regs e.cop0 e.bytes u s.running ke.masked (record { words = entry_kept first e.bytes ke.bytes words; area = h.holds.area; settled = h.holds.settled })))
 
     split : (to at : ℕ) (X Y Z : Type 0) → (to ≡ at → X → Z) → (Y → Z) → cond (nat_eq to at) X Y → Z
     split to at X Y Z f g h = go (nat_eq to at) refl h
@@ -181,9 +171,13 @@ module _ (rom : List ℕ) (a b c : ℕ) where
     in_door (Halt stop u) v to e ke h =
         let R : Type 0 = Runs_at (Halt stop u) to e in
         let here : (at : ℕ) → to ≡ at → Runs_at (Halt stop u) at e → R = λ at is x. subst (λ n. Runs_at (Halt stop u) n e) (sym is) x in
-        split to BAD_POINTER (Refuses BadPointer stop u e) (cond (nat_eq to BAD_THREAD) (Refuses BadThread stop u e) (cond (nat_eq to DEEP) (Overflows stop u e) ⊥)) R (λ is x. here BAD_POINTER is (refused stop u e ke x))
-        (λ y. split to BAD_THREAD (Refuses BadThread stop u e) (cond (nat_eq to DEEP) (Overflows stop u e) ⊥) R (λ is x. here BAD_THREAD is (no_thread stop u e ke x))
-        (λ z. split to DEEP (Overflows stop u e) ⊥ R (λ is x. here DEEP is (too_deep stop u e ke x)) (λ n. absurd n) z) y) h
+        let last : Type 0 = cond (nat_eq to BAD_RETURN) (Strays stop u e) ⊥ in
+        let deep : Type 0 = cond (nat_eq to DEEP) (Overflows stop u e) last in
+        let thread : Type 0 = cond (nat_eq to BAD_THREAD) (Refuses BadThread stop u e) deep in
+        split to BAD_POINTER (Refuses BadPointer stop u e) thread R (λ is x. here BAD_POINTER is (refused stop u e ke x))
+        (λ y. split to BAD_THREAD (Refuses BadThread stop u e) deep R (λ is x. here BAD_THREAD is (no_thread stop u e ke x))
+        (λ z. split to DEEP (Overflows stop u e) last R (λ is x. here DEEP is (too_deep stop u e ke x))
+        (λ w. split to BAD_RETURN (Strays stop u e) ⊥ R (λ is x. here BAD_RETURN is (strays stop u e ke x)) (λ n. absurd n) w) z) y) h
     in_door (Ask port next) v to e ke h = absurd h
     in_door (Tell port value next) v to e ke h = absurd h
     in_door (Write byte next) v to e ke h = absurd h

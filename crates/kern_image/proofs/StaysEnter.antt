@@ -31,8 +31,9 @@ mirrored_at a h = mirrored (nat_eq (top a) 0) (nat_eq (top a) 4) (nat_eq (top a)
 abbrev pub Fits : Context → Trap → Type 0
 Fits c trap = (trap.code < 32) × (trap.code ≡ 8 → is_mirrored c.pc ≡ true)
 
+-- its code is none of an interrupt
 abbrev MoveFits : Context → UserMove → Type 0
-MoveFits c (Raises trap) = Fits c trap
+MoveFits c (Raises trap) = Fits c trap × (trap.code ≡ 0 → ⊥)
 MoveFits c (Next context bytes) = Unit {0}
 MoveFits c (Halts stop) = Unit {0}
 
@@ -48,43 +49,48 @@ module _ (c : Context) (m : Memory) (at : is_mirrored c.pc ≡ true) where
   abbrev passes : Ins → UserMove
   passes i = user_performed c m i (own_trap i c)
 
-  raised : (b : Bool) (code : ℕ) (i : Ins) → code < 32 → MoveFits c (user_performed c m i (raises b code))
-  raised true code i small = (small, λ e. at)
-  raised false code i small = tt
+  raised : (b : Bool) (code : ℕ) (i : Ins) → code < 32 → (code ≡ 0 → ⊥) → MoveFits c (user_performed c m i (raises b code))
+  raised true code i small some = ((small, λ e. at), some)
+  raised false code i small some = tt
 
   pass_fits : (i : Ins) → MoveFits c (passes i)
-  pass_fits (SYSCALL code) = raised true 8 (SYSCALL code) (omega arith)
-  pass_fits (BREAK code) = raised true 9 (BREAK code) (omega arith)
-  pass_fits (ADD s t d) = raised (not (has_word (signed (register c.regs s.0) +ℤ signed (register c.regs t.0)))) 12 (ADD s t d) (omega arith)
-  pass_fits (SUB s t d) = raised (not (has_word (signed (register c.regs s.0) -ℤ signed (register c.regs t.0)))) 12 (SUB s t d) (omega arith)
-  pass_fits (ADDI s t imm) = raised (not (has_word (signed (register c.regs s.0) +ℤ signed (sign_extended imm)))) 12 (ADDI s t imm) (omega arith)
+  pass_fits (SYSCALL code) = raised true 8 (SYSCALL code) (omega arith) (λ e. omega (arith, e))
+  pass_fits (BREAK code) = raised true 9 (BREAK code) (omega arith) (λ e. omega (arith, e))
+  pass_fits (ADD s t d) = raised (not (has_word (signed (register c.regs s.0) +ℤ signed (register c.regs t.0)))) 12 (ADD s t d) (omega arith) (λ e. omega (arith, e))
+  pass_fits (SUB s t d) = raised (not (has_word (signed (register c.regs s.0) -ℤ signed (register c.regs t.0)))) 12 (SUB s t d) (omega arith) (λ e. omega (arith, e))
+  pass_fits (ADDI s t imm) = raised (not (has_word (signed (register c.regs s.0) +ℤ signed (sign_extended imm)))) 12 (ADDI s t imm) (omega arith) (λ e. omega (arith, e))
   pass_fits _ = tt
 
-  bad_fits : (u : DataUse) (b : Bool) → (if b then 5 else 4) < 32
-  bad_fits u true = omega arith
-  bad_fits u false = omega arith
+  bad_fits : (u : DataUse) (b : Bool) → ((if b then 5 else 4) < 32) × (◌≡◌ {A = ℕ} (if b then 5 else 4) 0 → ⊥)
+  bad_fits u true = (omega arith, λ e. omega (arith, e))
+  bad_fits u false = (omega arith, λ e. omega (arith, e))
 
   data_fits : (i : Ins) (u : Option DataUse) → MoveFits c (guard_data Halts Raises passes c false i u)
   data_fits i None = pass_fits i
-  data_fits i (Some u) = either (MoveFits c) (is_aligned u.at u.multiple) _ _ (λ e. either (MoveFits c) (false || user u.at) _ _ (λ e. pass_fits i) tt) (bad_fits u u.stores, λ e. at)
+  data_fits i (Some u) = either (MoveFits c) (is_aligned u.at u.multiple) _ _ (λ e. either (MoveFits c) (false || user u.at) _ _ (λ e. pass_fits i) tt) (let f = bad_fits u u.stores in ((f.0, λ e. at), f.1))
 
   word_fits : (w : ℕ) (o : Option Ins) → MoveFits c (guard_word Halts Raises passes c false w o)
   word_fits w (Some i) =
       either (MoveFits c) (is_branch i && (c.in_slot && not false)) _ _ (λ e. tt) (either (MoveFits c) (is_protected i && not false) _ _ (λ e. tt) (data_fits i (data_use i c)))
-  word_fits w None = (reserved (nat_eq (w / 2 ^ 26 % 4) 0) (nat_eq (w / 2 ^ 26 / 4) 4 || (nat_eq (w / 2 ^ 26 / 4) 12 || nat_eq (w / 2 ^ 26 / 4) 14)), λ e. at)
+  word_fits w None = let f = reserved (nat_eq (w / 2 ^ 26 % 4) 0) (nat_eq (w / 2 ^ 26 / 4) 4 || (nat_eq (w / 2 ^ 26 / 4) 12 || nat_eq (w / 2 ^ 26 / 4) 14)) in ((f.0, λ e. at), f.1)
     where
-      reserved : (a b : Bool) → (if a then 10 else (if b then 11 else 10)) < 32
-      reserved true b = omega arith
-      reserved false true = omega arith
-      reserved false false = omega arith
+      reserved : (a b : Bool) → ((if a then 10 else (if b then 11 else 10)) < 32) × (◌≡◌ {A = ℕ} (if a then 10 else (if b then 11 else 10)) 0 → ⊥)
+      reserved true b = (omega arith, λ e. omega (arith, e))
+      reserved false true = (omega arith, λ e. omega (arith, e))
+      reserved false false = (omega arith, λ e. omega (arith, e))
 
 step_fits : (c : Context) (m : Memory) → MoveFits c (user_step c m)
 unfolding user_step
 step_fits c m =
     either (MoveFits c) (nat_eq (c.pc % 4) 0) _ _
     (λ e. either (MoveFits c) (false || (user c.pc || is_some (gate_of c.pc))) _ _ (λ h. word_fits c m (mirrored_at c.pc h) (fetched c m) (instruction_of (fetched c m))) tt)
-    (other c (record { code = 4; bad = Some c.pc }) (omega arith) (λ e. omega (arith, e)))
+    (other c (record { code = 4; bad = Some c.pc }) (omega arith) (λ e. omega (arith, e)), λ e. omega (arith, e))
 
 pub may_enter : (s : KernelState) (trap : Trap) → MayEnter s trap → Fits s.running.context trap
-may_enter s trap (inl e) = subst (MoveFits s.running.context) e (step_fits s.running.context s.memory)
+may_enter s trap (inl e) = (subst (MoveFits s.running.context) e (step_fits s.running.context s.memory)).0
 may_enter s trap (inr h) = subst (Fits s.running.context) (sym h.0) (other s.running.context interrupt (omega arith) (λ e. omega (arith, e)))
+
+-- by an interrupt's code only an interrupt enters
+pub only_interrupt : (s : KernelState) (trap : Trap) → MayEnter s trap → trap.code ≡ 0 → (trap ≡ interrupt) × (s.running.interrupts ≡ true)
+only_interrupt s trap (inl e) none = absurd ((subst (MoveFits s.running.context) e (step_fits s.running.context s.memory)).1 none)
+only_interrupt s trap (inr h) none = h

@@ -11,7 +11,7 @@ use Rattle.kern_stay.proofs.Standing.{stand_first, stand_second}
 use Rattle.kern_entry.specs.EntryWords.{vector_pieces, code_pieces}
 use Rattle.kern_entry.specs.Holding.{HoldsEntry}
 use Rattle.kern_entry.specs.Tables.{table_word, AllThere, TableAt, TablesRead}
-use Rattle.kern_image.specs.Tables.{routine_of, table_words, table_pieces}
+use Rattle.kern_image.specs.Tables.{routine_of, table_words}
 use Rattle.kern_image.specs.Words.{joined}
 use Rattle.kern_image.specs.Rom.{crate_pieces, rom}
 use Rattle.kern_image.proofs.Bytes.{length-listed, get_or-listed}

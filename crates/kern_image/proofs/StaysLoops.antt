@@ -1,13 +1,12 @@
 -- A call that is served by two listings, of which one is a loop that accesses ports.
-use Rattle.std.proofs.Common.{◌≡◌, ℕ, zero, suc, ◌+◌, ◌-◌, ◌*◌, ◌%◌, ◌≤◌, List, [], ◌∷◌, ◌++◌, refl, sym, ap, ◌∙◌, subst, arith}
-use Rattle.std.specs.Prelude.{cond, nat_eq}
+use Rattle.std.proofs.Common.{◌≡◌, ℕ, zero, suc, ◌+◌, ◌-◌, ◌*◌, ◌≤◌, List, [], ◌∷◌, ◌++◌, refl, sym, ap, ◌∙◌, subst, arith}
+use Rattle.std.specs.Prelude.{nat_eq}
 use Rattle.std.proofs.Math.Nat.{mul-add}
 use Rattle.std.proofs.lemmas.Bool.{eqb-true}
 use Rattle.psx_base.specs.declared.ports.TheConstants.{HALT_A, HALT_B, HALT_C}
 use Rattle.psx_base.specs.Memory.{Memory}
-use Rattle.psx_base.specs.Registers.{Registers}
 use Rattle.psx_base.specs.KernelState.{KernelState}
-use Rattle.psx_cpu.specs.Processor.{Core, Cop0}
+use Rattle.psx_cpu.specs.Processor.{Core}
 use Rattle.psx_flow.specs.Kernel.{kernel_words}
 use Rattle.psx_flow.specs.Meets.{Goal, Meets, calls}
 use Rattle.psx_flow.specs.Plain.{kernel_core}
@@ -34,7 +33,8 @@ use Rattle.kern_image.proofs.StaysRuns.{paid, paid_is, runs_least}
 use Rattle.kern_image.proofs.StaysMade.{Shows, Pays, shows_paid, split}
 use Rattle.kern_image.proofs.StaysStage.{going_shows, bare, from_bare, after_ends, bare_ends}
 use Rattle.kern_image.proofs.StaysDoors.{at_core, IsValid, in_door, ends_door}
-use Rattle.kern_image.proofs.StaysServed.{Serving, both_placed}
+use Rattle.kern_image.proofs.StaysServed.{Serving}
+use Rattle.kern_image.proofs.StaysThrough.{both_placed}
 
 -- the steps that are left behind accesses, of which each pays
 abbrev left : Stay → ℕ → List Access → ℕ
@@ -63,7 +63,7 @@ module _ (rom : List ℕ) (m : Memory) (words : HoldsEntry m) (code : HoldsRom m
     pays n = record { load = λ size at value q. refl; store = λ size at value q. refl; read = λ at value q. omega arith; write = λ at value q. omega arith }
 
     -- what is left is made where a part ends
-    abbrev Made : ℕ → ℕ → Run → Type 0
+    abbrev pub Made : ℕ → ℕ → Run → Type 0
     Made rest to e = Follows stay e.seen × Runs rom (after stay e.seen) (left stay rest e.seen) (at_core rom (given HALT_A a e.seen) (given HALT_B b e.seen) (given HALT_C c e.seen) (kernel_core (state_at e to)))
 
     module _ (own : List (ℕ × Tree)) (there : ArePlaced kernel_words m own) (T : Tree) (at : ℕ) (placed : IsPlaced kernel_words m at T) (rest most : ℕ) (G : ℕ → Goal) (low : (to : ℕ) (e : Run) → G to e → e.steps ≤ most) (made : (to : ℕ) (e : Run) → Keeps kernel_words m e → G to e → (n : ℕ) → most ≤ n + e.steps → Made (rest + n) to e) where
@@ -110,18 +110,18 @@ module _ (rom : List ℕ) (m : Memory) (words : HoldsEntry m) (code : HoldsRom m
     k = kernel_core (state_at e to)
 
     -- the rest is made in no more steps than are left
-    by_rest : (n : ℕ) → n ≤ rest + 128 * earned stay told → Runs rom (after stay told) n (at_core rom A B D k) → Made a b c stay rest to e
+    pub by_rest : (n : ℕ) → n ≤ rest + 128 * earned stay told → Runs rom (after stay told) n (at_core rom A B D k) → Made a b c stay rest to e
     by_rest n few h =
         let same : after stay told ≡ after stay e.seen = ap (after stay) (sym quiet) ∙ sym (after_ports stay e.seen) in
         let f : earned stay e.seen ≡ earned stay told = earned_ports stay e.seen ∙ ap (earned stay) quiet in
         (follows_ports stay e.seen (subst (Follows stay) (sym quiet) follows), runs_least rom (after stay e.seen) _ _ (at_core rom A B D k) (least a b c stay rest n e.seen (omega (arith, f, few))) (subst (λ y. Runs rom y n (at_core rom A B D k)) same h))
 
-    by_door : (most : ℕ) → Ends 0 (after stay told) most to e → Made a b c stay rest to e
+    pub by_door : (most : ℕ) → Ends 0 (after stay told) most to e → Made a b c stay rest to e
     by_door most h =
         by_rest 73 (omega (arith, some)) (from_bare rom (after stay told) 73 (at_core rom A B D k)
         (in_door rom A B D m words code (bare (after stay told)) (bare_ends _ _ (after stay told) (after_ends _ _ stay told valid)) to e ke (ends_door 0 (after stay told) most to e h).1))
 
-  low_ends : (stay : Stay) (most to : ℕ) (e : Run) → Ends 0 stay most to e → e.steps ≤ most
+  pub low_ends : (stay : Stay) (most to : ℕ) (e : Run) → Ends 0 stay most to e → e.steps ≤ most
   low_ends stay most to e h = let r = ends_door 0 stay most to e h in omega (arith, r.0)
 
   -- the loop, from its address, in as many steps as a turn may make and a door takes

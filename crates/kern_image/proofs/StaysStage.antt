@@ -9,6 +9,7 @@ use Rattle.psx_base.specs.KernelState.{KernelState}
 use Rattle.psx_cpu.specs.Processor.{Core}
 use Rattle.psx_flow.specs.Run.{Access, Load, Store, PortRead, PortWrite}
 use Rattle.psx_cpu.specs.Step.{step}
+use Rattle.psx_flow.specs.Told.{ports}
 use Rattle.psx_flow.specs.Plain.{went, seen_at}
 use Rattle.abs_kernel.specs.Stay.{Stay, Return, Halt, Ask, Tell, Write, Touch}
 use Rattle.abs_kernel.specs.StayLaws.{EachEnd}
@@ -76,6 +77,14 @@ runs_bare rom (Write byte next) n k h = let e : n + 128 * 0 ≡ n = omega arith 
 pub from_bare : (rom : List ℕ) (stay : Stay) (n : ℕ) (k : InKernel) → Runs rom (bare stay) n k → Runs rom stay n k
 from_bare rom stay n k h = runs_bare rom stay n k (runs_more rom (128 * weight stay) (bare stay) n k h)
 
+pub to_bare : (rom : List ℕ) (stay : Stay) (n : ℕ) (k : InKernel) → Runs rom stay n k → Runs rom (bare stay) (n + 128 * weight stay) k
+to_bare rom (Touch bytes next) n k h = let e : n + 128 * bytes + 128 * weight next ≡ n + 128 * (bytes + weight next) = omega arith in subst (λ j. Runs rom (bare next) j k) e (to_bare rom next (n + 128 * bytes) k h)
+to_bare rom (Return state) n k h = runs_more rom (128 * 0) (Return state) n k h
+to_bare rom (Halt stop memory) n k h = runs_more rom (128 * 0) (Halt stop memory) n k h
+to_bare rom (Ask port next) n k h = runs_more rom (128 * 0) (Ask port next) n k h
+to_bare rom (Tell port value next) n k h = runs_more rom (128 * 0) (Tell port value next) n k h
+to_bare rom (Write byte next) n k h = runs_more rom (128 * 0) (Write byte next) n k h
+
 bare_bare : (stay : Stay) → bare (bare stay) ≡ bare stay
 bare_bare (Touch bytes next) = bare_bare next
 bare_bare (Return state) = refl
@@ -138,6 +147,14 @@ bare_after stay (Load size at value ∷ q) = bare_after stay q
 bare_after stay (Store size at value ∷ q) = bare_after stay q
 bare_after stay (PortRead at value ∷ q) = ap bare (sym (read_bare value (after (bare stay) q)) ∙ ap (read_of value) (bare_after stay q) ∙ read_bare value (after stay q))
 bare_after stay (PortWrite at value ∷ q) = ap bare (sym (written_bare (after (bare stay) q)) ∙ ap written_of (bare_after stay q) ∙ written_bare (after stay q))
+
+-- behind an access to a port nothing is left of what was touched first
+pub after_bare : (stay : Stay) (q : List Access) → (ports q ≡ [] → ⊥) → after (bare stay) q ≡ after stay q
+after_bare stay [] some = absurd (some refl)
+after_bare stay (Load size at value ∷ q) some = after_bare stay q some
+after_bare stay (Store size at value ∷ q) some = after_bare stay q some
+after_bare stay (PortRead at value ∷ q) some = sym (read_bare value (after (bare stay) q)) ∙ ap (read_of value) (bare_after stay q) ∙ read_bare value (after stay q)
+after_bare stay (PortWrite at value ∷ q) some = sym (written_bare (after (bare stay) q)) ∙ ap written_of (bare_after stay q) ∙ written_bare (after stay q)
 
 pub bare_follows : (stay : Stay) (q : List Access) → Follows stay q → Follows (bare stay) q
 bare_follows stay [] h = tt

@@ -7,8 +7,10 @@ use Rattle.kern_stay.specs.Words.{overlaid}
 use Rattle.kern_entry.specs.EntryWords.{vector_pieces, code_pieces}
 use Rattle.kern_thread.specs.ThreadWords.{thread_pieces}
 use Rattle.kern_event.specs.EventWords.{event_pieces}
+use Rattle.kern_timer.specs.TimerWords.{timer_pieces}
 use Rattle.kern_mem.specs.MemWords.{mem_pieces}
 use Rattle.kern_text.specs.TextWords.{text_pieces}
+use Rattle.kern_printf.specs.PrintfWords.{printf_pieces}
 use Rattle.kern_heap.specs.HeapWords.{heap_pieces}
 use Rattle.kern_file.specs.FileWords.{file_pieces}
 use Rattle.kern_image.specs.Tables.{table_pieces}
@@ -21,7 +23,7 @@ opened_word a = if nat_lt a threads_at then 0 else opening_at a
 
 -- the words of the kernel's code, crate by crate, in the order of their addresses
 abbrev pub crate_pieces : List (List (ℕ × List ℕ))
-crate_pieces = vector_pieces ∷ table_pieces ∷ code_pieces ∷ thread_pieces ∷ event_pieces ∷ mem_pieces ∷ text_pieces ∷ heap_pieces ∷ file_pieces ∷ []
+crate_pieces = vector_pieces ∷ table_pieces ∷ code_pieces ∷ thread_pieces ∷ event_pieces ∷ timer_pieces ∷ mem_pieces ∷ text_pieces ∷ printf_pieces ∷ heap_pieces ∷ file_pieces ∷ []
 
 abbrev pub all_pieces : List (ℕ × List ℕ)
 all_pieces = joined crate_pieces

@@ -7,6 +7,7 @@ use Rattle.psx_board.specs.Run.{board_run}
 use Rattle.kern_layout.specs.Start.{SizesFit}
 use Rattle.abs_run.specs.Accepted.{IsAccepted, AreBytes}
 use Rattle.abs_run.specs.KernelRun.{KernelRun}
+use Rattle.abs_run.specs.InTime.{InterruptsInTime}
 use Rattle.kern_image.specs.Rom.{rom}
 
 -- Each run of an accepted program, for any sizes, schedule and budget, is a kernel run of that program.
@@ -14,3 +15,8 @@ abbrev pub RunsAreKernelRuns : Type 0
 RunsAreKernelRuns =
     (exe : Exe) (sizes : Sizes) (schedule : List Entry) (budget : ℕ) → IsAccepted exe → SizesFit sizes → AreBytes schedule
     → let o = board_run rom exe sizes schedule budget in KernelRun exe sizes o.items o.tty o.last.core.bytes
+
+-- And each interrupt of it returns, or to the first function that it calls, in time.
+abbrev pub RunsReturnInTime : Type 0
+RunsReturnInTime =
+    (exe : Exe) (sizes : Sizes) (schedule : List Entry) (budget : ℕ) → IsAccepted exe → SizesFit sizes → AreBytes schedule → InterruptsInTime (board_run rom exe sizes schedule budget).items

@@ -53,8 +53,10 @@ fn kernel(alloc: Global) -> Result<KernelBlock, Memory>
     let mut block = KernelBlock::new(alloc)?;
     kern_file::place(&mut block);
     kern_heap::place(&mut block);
+    kern_printf::place(&mut block);
     kern_text::place(&mut block);
     kern_mem::place(&mut block);
+    kern_timer::place(&mut block);
     kern_event::place(&mut block);
     kern_thread::place(&mut block);
     place_code(&mut block);

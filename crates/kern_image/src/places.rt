@@ -2,8 +2,8 @@
 use abs_kernel::CallId;
 use kern_entry::places::EXIT;
 use kern_event::places::{
-    CLOSE_EVENT, DISABLE_EVENT, ENABLE_EVENT, OPEN_EVENT, SYS_DEQ_INT_RP, SYS_ENQ_INT_RP,
-    TEST_EVENT, UNDELIVER_EVENT, WAIT_EVENT,
+    CLOSE_EVENT, DELIVER_EVENT, DISABLE_EVENT, ENABLE_EVENT, OPEN_EVENT, SYS_DEQ_INT_RP,
+    SYS_ENQ_INT_RP, TEST_EVENT, UNDELIVER_EVENT, WAIT_EVENT,
 };
 use kern_file::places::{
     CLOSE, GET_LAST_ERROR, GETC, GETCHAR, GETS, OPEN, PUTC, PUTCHAR, PUTS, READ, WRITE,
@@ -13,11 +13,15 @@ use kern_mem::places::{
     BCOPY, BZERO, FLUSH_CACHE, LONGJMP, MEMCHR, MEMCMP, MEMCPY, MEMMOVE, MEMSET, RAND, SETJMP,
     SRAND,
 };
+use kern_printf::places::PRINTF;
 use kern_text::places::{
     ABS, ATOI, STRCAT, STRCHR, STRCMP, STRCPY, STRCSPN, STRLEN, STRNCAT, STRNCMP, STRNCPY, STRPBRK,
     STRRCHR, STRSPN, STRSTR, STRTOK, STRTOL, TOLOWER, TOUPPER,
 };
-use kern_thread::places::{CHANGE_THREAD, CLOSE_THREAD, OPEN_THREAD};
+use kern_thread::places::{CHANGE_THREAD, CLOSE_THREAD, OPEN_THREAD, RETURN_FROM_EXCEPTION};
+use kern_timer::places::{
+    DISABLE_TIMER_IRQ, ENABLE_TIMER_IRQ, GET_TIMER, INIT_TIMER, RESTART_TIMER,
+};
 
 /// A call, and the address of the listing that serves it.
 #[derive(Clone, Copy)]
@@ -29,7 +33,7 @@ pub struct Place {
 }
 
 /// Each call once. Numbers of one description share an address.
-pub const PLACES: [Place; 78] = [
+pub const PLACES: [Place; 86] = [
     Place {
         call: CallId::A00,
         at: OPEN,
@@ -243,8 +247,36 @@ pub const PLACES: [Place; 78] = [
         at: PUTS,
     },
     Place {
+        call: CallId::A3F,
+        at: PRINTF,
+    },
+    Place {
         call: CallId::A44,
         at: FLUSH_CACHE,
+    },
+    Place {
+        call: CallId::B02,
+        at: INIT_TIMER,
+    },
+    Place {
+        call: CallId::B03,
+        at: GET_TIMER,
+    },
+    Place {
+        call: CallId::B04,
+        at: ENABLE_TIMER_IRQ,
+    },
+    Place {
+        call: CallId::B05,
+        at: DISABLE_TIMER_IRQ,
+    },
+    Place {
+        call: CallId::B06,
+        at: RESTART_TIMER,
+    },
+    Place {
+        call: CallId::B07,
+        at: DELIVER_EVENT,
     },
     Place {
         call: CallId::B08,
@@ -281,6 +313,10 @@ pub const PLACES: [Place; 78] = [
     Place {
         call: CallId::B10,
         at: CHANGE_THREAD,
+    },
+    Place {
+        call: CallId::B17,
+        at: RETURN_FROM_EXCEPTION,
     },
     Place {
         call: CallId::B20,

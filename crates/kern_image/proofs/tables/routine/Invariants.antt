@@ -1,4 +1,4 @@
-use Rattle.std.proofs.Common.{◌≡◌, ℕ, drop}
+use Rattle.std.proofs.Common.{◌≡◌, drop}
 use Rattle.kern_image.specs.Tables.{place_of, routine_of}
 use Rattle.kern_image.specs.declared.places.TheConstants.{PLACES}
 use Rattle.kern_image.proofs.tables.routine.Given as goal
