@@ -153,7 +153,7 @@ module _ {H : Type 0} (holds : H → List ℕ → Option (List ℕ)) (sent : H �
 
   done-run : (c : RunWords) (r : EndsRun start last c result) → RunsProgram (sent old) (sent new) (sends old) (sends new) (run_of r.inputs c.budget) result → (result ≡ 0) ⊎ (result ≡ 1) → Ran holds sent old new c result
   done-run c r (inl memory) d = not-done result (omega (arith, memory.0)) d
-  done-run c r (inr (inl all)) d = record { inputs = r.inputs; given = r.given; texts = all.1; success = all.0; kernel = r.kernel }
+  done-run c r (inr (inl all)) d = record { inputs = r.inputs; given = r.given; texts = all.1; success = all.0; kernel = r.kernel; in_time = r.in_time }
   done-run c r (inr (inr failed)) d = not-done result (omega (arith, failed.0)) d
 
   done-text : (out : Out) (text : List ℕ) → MakesText (sent old) (sent new) (sends old) (sends new) out text result → (result ≡ 0) ⊎ (result ≡ 1) → (result ≡ 0) × SentAlone (sent old) (sent new) out text

@@ -5,6 +5,7 @@ use Rattle.psx_base.specs.declared.host.Out.TheVariants.{Tty, Ram, Report}
 use Rattle.psxk_run.specs.declared.inputs.Inputs.{Inputs}
 use Rattle.psxk_run.specs.declared.refusal.Refusal.{Refusal}
 use Rattle.psx_exe.specs.declared.exe.Exe.{Exe}
+use Rattle.abs_run.specs.InTime.{InterruptsInTime}
 use Rattle.kern_image.specs.Rom.{rom}
 use Rattle.psxk_run.specs.Command.{RunWords, Command, ToRun, ToImage, ToPrint, ToAssemble}
 use Rattle.psxk_run.specs.Commands.{Causes}
@@ -35,6 +36,7 @@ pub record EndsRun (old new : Moment) (c : RunWords) (status : ℕ) : Type 0 whe
   pub ran : RunsProgram old.sent new.sent old.sends new.sends (run_of inputs c.budget) status
   pub fronts : HasFronts old.sent new.sent (run_of inputs c.budget) ⊎ ReportsFront old.sent new.sent memory_line
   pub kernel : IsKernelRun inputs (run_of inputs c.budget)
+  pub in_time : InterruptsInTime (run_of inputs c.budget).items
 
 -- a text that was made and sent
 pub record EndsText (old new : Moment) (out : Out) (text : List ℕ) (status : ℕ) : Type 0 where

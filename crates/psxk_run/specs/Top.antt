@@ -6,6 +6,7 @@ use Rattle.psx_base.specs.Host.{Rose}
 use Rattle.psx_exe.specs.declared.exe.Exe.{Exe}
 use Rattle.psx_board.specs.Run.{Outcome, board_run}
 use Rattle.abs_run.specs.KernelRun.{KernelRun}
+use Rattle.abs_run.specs.InTime.{InterruptsInTime}
 use Rattle.kern_image.specs.Rom.{rom}
 use Rattle.psxk_run.specs.declared.inputs.Inputs.{Inputs}
 use Rattle.psxk_run.specs.declared.refusal.Refusal.{Refusal}
@@ -36,13 +37,14 @@ run_of inputs budget = board_run rom inputs.exe inputs.sizes inputs.schedule bud
 abbrev pub IsKernelRun : Inputs → Outcome → Type 0
 IsKernelRun inputs o = KernelRun inputs.exe inputs.sizes o.items o.tty o.last.core.bytes
 
--- all files were loaded and accepted, and what the board's run within the budget sends was sent; that run is one of the kernel machine
+-- all files were loaded and accepted, and what the board's run within the budget sends was sent; that run is one of the kernel machine, and its interrupts return in time
 pub record Ran {H : Type 0} (holds : H → List ℕ → Option (List ℕ)) (sent : H → Out → Option (List ℕ)) (old new : H) (c : RunWords) (status : ℕ) : Type 0 where
   pub inputs : Inputs
   pub given : GivesAll (IsLoaded (holds old)) c inputs
   pub texts : HasTexts (sent old) (sent new) (run_of inputs c.budget)
   pub success : status ≡ status_of (run_of inputs c.budget).stop
   pub kernel : IsKernelRun inputs (run_of inputs c.budget)
+  pub in_time : InterruptsInTime (run_of inputs c.budget).items
 
 -- the program was loaded and accepted, and the printed words of its text were sent and nothing else
 pub record Printed {H : Type 0} (holds : H → List ℕ → Option (List ℕ)) (sent : H → Out → Option (List ℕ)) (old new : H) (name : List ℕ) (status : ℕ) : Type 0 where

@@ -220,6 +220,7 @@ pub fn psxk<H: Host>(alloc: Global, words: &[&str], host: &mut H) -> u8
 
     // With status 0 or 1 all files were loaded and accepted, and exactly the texts of their run, or the one text of the command, were sent.
     // A run is one of the written kernel machine with its program: each step of the user, each stay in the kernel, its console bytes and the user's memory at its end.
+    // Each interrupt of it returns, or comes to the first function that it calls, in at most 8,192 steps behind the one that takes it: by the counts of its E and its X.
     ensures done { (result ≡ 0) ⊎ (result ≡ 1) → IfCommand words.now (λ c. IsDone H.holds H.sent host.old host.new c result) }
 
     // The other statuses have their causes. What a host tells of its files decides, but for a load or a sending that failed and want of memory.
