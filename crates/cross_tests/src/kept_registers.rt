@@ -1,10 +1,10 @@
 //! What a call leaves of a program's registers, and what the SYSCALLs do with the interrupts' mask.
 ghost use Rattle.std.specs.Prelude.{◌<◌, length};
 
-use crate::hosts::{RUN, host_of, program};
 use psx_base::Out;
 use psxk_run::psxk;
 use std::process::Abort;
+use test_hosts::{RUN, host_of, program};
 
 // A program's trace has these bytes.
 fn trace_has<R: AllocGlobal + Abort>(rt: &R, words: &[u32], part: &[u8])
@@ -56,11 +56,9 @@ const VALUES: [u32; 34] = [
 
 #[test]
 fn keeps_the_registers_over_a_call(rt: HostRuntime) {
-    trace_has(
-        &rt,
-        &VALUES,
-        b" 80010088 00000401 00007001 00007002 00000101 00000041 00000103 00000041 00000105 00000106 00000107 00000108 0000003C 000000A0 0000010B 0000010C 0000010D 0000010E 0000010F 00000110 00000111 00000112 00000113 00000114 00000115 00000116 00000117 00000118 00000119 80010088 00000000 0000011C 0000011D 0000011E 80010088\n",
-    );
+    const TEXT: &[u8] =
+        b" 80010088 00000401 00007001 00007002 00000101 00000041 00000103 00000041 00000105 00000106 00000107 00000108 0000003C 000000A0 0000010B 0000010C 0000010D 0000010E 0000010F 00000110 00000111 00000112 00000113 00000114 00000115 00000116 00000117 00000118 00000119 80010088 00000000 0000011C 0000011D 0000011E 80010088\n";
+    trace_has(&rt, &VALUES, TEXT);
 }
 
 #[test]

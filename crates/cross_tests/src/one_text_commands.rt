@@ -1,8 +1,8 @@
 //! The commands that send one text: the ROM, the printed words of a program, and the program of an assembly text.
-use crate::hosts::{HELLO, ROOM, RUN, host_of, host_with, program};
 use psx_base::{MemoryHost, Out};
 use psxk_run::psxk;
 use std::process::Abort;
+use test_hosts::{HELLO, ROOM, RUN, host_of, host_with, program};
 
 #[test]
 fn sends_the_image(rt: HostRuntime) {
@@ -30,10 +30,7 @@ fn prints<R: AllocGlobal + Abort>(rt: &R, file: &[u8], text: &[u8]) {
 
 #[test]
 fn prints_programs(rt: HostRuntime) {
-    prints(
-        &rt,
-        &program(&rt, &HELLO),
-        b".org 0x80010000
+    const TEXT: &[u8] = b".org 0x80010000
 addiu r4, r0, 65
 addiu r9, r0, 60
 addiu r10, r0, 160
@@ -43,8 +40,8 @@ addiu r4, r0, 0
 addiu r9, r0, 6
 jr r10
 sll r0, r0, 0
-",
-    );
+";
+    prints(&rt, &program(&rt, &HELLO), TEXT);
     // five bytes from 80010003h on: three zero bytes in front, none behind
     let mut file = program(&rt, &[0x0041_0000, 0x0000_0024]);
     assert_eq!(rt; file.len(), 2056);

@@ -1,8 +1,8 @@
 //! Whole runs of programs over hosts in memory. The expected counts are those of the image's words, counted by hand.
-use crate::hosts::{HELLO, HELLO_TRACE, RUN, host_of, program};
 use psx_base::Out;
 use psxk_run::psxk;
 use std::process::Abort;
+use test_hosts::{HELLO, HELLO_TRACE, RUN, host_of, program};
 
 #[test]
 fn prints_a_letter_and_exits(rt: HostRuntime) {
@@ -49,9 +49,9 @@ fn names_what_the_kernel_does_not_serve(rt: HostRuntime) {
     );
     stops(
         &rt,
-        &[0x2409_0005, 0x240A_00B0, 0x0140_0008, 0],
+        &[0x2409_0001, 0x240A_00B0, 0x0140_0008, 0],
         1,
-        b" Unserved B 00000005 000000D0\n",
+        b" Unserved B 00000001 000000D0\n",
     );
     stops(
         &rt,
