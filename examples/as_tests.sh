@@ -1,29 +1,25 @@
 #!/usr/bin/env bash
-# Writes the tests of crates/cross_tests for the named examples: each text with its schedule, where it has one, and its expected output, as the files here have them.
+# Writes the test of crates/example_tests for the named example: its text with its schedule, where it has one, and its expected output, as the files here have them.
 set -euo pipefail
 cd "$(dirname "$0")"
+name=$1
 
 # A file as the inside of a byte string.
 quoted() {
     sed 's/\\/\\\\/g; s/"/\\"/g' "$1"
 }
 
+shows=shows schedule=
+if [ -f "$name.sched" ]; then shows=shows_with schedule=" SCHEDULE,"; fi
 echo "//! Written by examples/as_tests.sh from the files of examples/."
-used="shows"
-for name; do
-    if [ -f "$name.sched" ]; then used="{shows, shows_with}"; fi
-done
-echo "use crate::$used;"
-for name; do
-    echo
-    echo "#[test]"
-    echo "fn $name(rt: HostRuntime) {"
-    if [ -f "$name.sched" ]; then echo "    shows_with("; else echo "    shows("; fi
-    echo "        &rt,"
-    printf '        b"%s\n",\n' "$(quoted "$name.s")"
-    if [ -f "$name.sched" ]; then printf '        b"%s\n",\n' "$(quoted "$name.sched")"; fi
-    printf '        b"%s",\n' "$(quoted "$name.out"; printf .)" | sed '$ s/\.",$/",/'
-    printf '        b" %s\n",\n' "$(quoted "$name.end")"
-    echo "    );"
-    echo "}"
-done
+echo "use test_hosts::$shows;"
+echo
+# A text whose first line is long begins a line of its own, as the formatter has it.
+printf 'const TEXT: &[u8] = b"%s\n";\n\n' "$(quoted "$name.s")" | sed '1 { /^.\{101\}/ s/ = b"/ =\n    b"/ }'
+if [ -f "$name.sched" ]; then printf 'const SCHEDULE: &[u8] = b"%s\n";\n\n' "$(quoted "$name.sched")"; fi
+printf 'const OUTPUT: &[u8] = b"%s";\n\n' "$(quoted "$name.out"; printf .)" | sed 's/\.";$/";/'
+printf 'const STOP: &[u8] = b" %s\n";\n\n' "$(quoted "$name.end")"
+echo "#[test]"
+echo "fn $name(rt: HostRuntime) {"
+echo "    $shows(&rt, TEXT,$schedule OUTPUT, STOP);"
+echo "}"

@@ -1,11 +1,11 @@
 #!/usr/bin/env bash
-# Makes and runs each example, with the schedule NAME.sched where there is one, and compares what it writes and where it stops with NAME.out and NAME.end.
-# The program is crates/psxk/out/psxk, or the one that PSXK names. The examples in C are made where there is a compiler for them.
+# Makes and runs each example, with the schedule NAME.sched and the budget NAME.budget where there are such files, and compares what it writes and where it stops with NAME.out and NAME.end.
+# The program is crates/psxk/out/psxk, or the one that PSXK names. The examples in C are made with make and a gcc for MIPS, by c/makefile, and left out where one of these isn't there.
 # Words on the command line are the names of the examples to be run, as `hello` or `c/hello`; without any all are.
 set -uo pipefail
 examples=$(cd "$(dirname "$0")" && pwd)
 psxk=${PSXK:-$examples/../crates/psxk/out/psxk}
-budget=2000000
+export CROSS=${CROSS:-mipsel-linux-gnu-}
 
 if [ ! -x "$psxk" ]; then
     echo "examples: none was tried, since $psxk isn't built"
@@ -24,7 +24,9 @@ differs() {
 # Makes program.exe of an example.
 make_program() {
     if [ "$(dirname "$name")" = c ]; then
-        "$examples/c/build.sh" program.exe "$examples/$name.c" || differs "it wasn't compiled"
+        cp "$examples"/c/* . || differs "the folder c wasn't copied"
+        make -B -s "${name#c/}.exe" || differs "it wasn't built"
+        mv "${name#c/}.exe" program.exe
     else
         "$psxk" asm "$examples/$name.s" >report || differs "asm ended with $?: $(cat report)"
         mv psxk.bin program.exe || differs "asm made no program"
@@ -46,14 +48,14 @@ expect() {
 
 # Makes and runs one example in a folder of its own.
 check() {
-    local end schedule status stop
+    local end schedule=- budget=2000000 status stop
     mkdir -p "$room/$name"
     cd "$room/$name" || differs "it has no folder"
     make_program
     end=$(cat "$examples/$name.end") || differs "it has no expected stop"
     expect "$end"
-    schedule=-
     [ -f "$examples/$name.sched" ] && schedule=$examples/$name.sched
+    [ -f "$examples/$name.budget" ] && budget=$(cat "$examples/$name.budget")
     "$psxk" run program.exe "$schedule" "$budget" >found
     status=$?
     stop=$(tail -n 1 psxk.trace | cut -d ' ' -f 1,3-)
@@ -62,31 +64,37 @@ check() {
     [ "$status" -eq "$wanted" ] || differs "run ended with $status"
 }
 
-if [ $# -eq 0 ]; then
-    cd "$examples" || exit 1
-    set -- *.s
-    if command -v "${CROSS:-mipsel-linux-gnu-}gcc" >/dev/null; then
-        set -- "$@" c/*.c
-    else
-        echo "examples: those in C are skipped, since there is no ${CROSS:-mipsel-linux-gnu-}gcc"
-    fi
-fi
-passed=0 failed=0
-# The tests of crates/cross_tests are to be these programs too.
-is_tested() {
-    "$examples/as_tests.sh" "${@:2}" | cmp - "$examples/../crates/cross_tests/src/$1.rt"
+# The first tool that the examples in C need and that isn't there.
+missing_tool() {
+    for tool in make "${CROSS}gcc" "${CROSS}objcopy"; do
+        command -v "$tool" >/dev/null || { echo "$tool" && return; }
+    done
 }
 
+# Whether crates/example_tests has the example as it stands here.
+is_tested() {
+    "$examples/as_tests.sh" "$1" | cmp - "$tests/$1.rt" && grep -q "^mod $1;$" "$tests/lib.rt"
+}
+
+tests=$examples/../crates/example_tests/src
 cd "$examples" || exit 1
-stops=(stop_*.s)
-mapfile -t programs < <(printf '%s\n' *.s | grep -v '^stop_')
-if ! is_tested programs "${programs[@]%.s}" || ! is_tested stops "${stops[@]%.s}"; then
-    echo "examples: examples/as_tests.sh makes other tests than crates/cross_tests has"
-    failed=1
+if [ $# -eq 0 ]; then
+    mapfile -t in_c < <(grep -l '^int main(' c/*.c)
+    set -- *.s "${in_c[@]}"
 fi
+missing=$(missing_tool)
+passed=0 failed=0
+for name in *.s; do
+    if ! is_tested "${name%.s}"; then
+        echo "examples: crates/example_tests has another test of ${name%.s}: write it anew by examples/as_tests.sh"
+        failed=$((failed + 1))
+    fi
+done
 for name; do
     name=${name%.[sc]}
-    if (check); then
+    if [ "$(dirname "$name")" = c ] && [ -n "$missing" ]; then
+        echo "examples: $name: left out, since there is no $missing"
+    elif (check); then
         passed=$((passed + 1))
     else
         failed=$((failed + 1))

@@ -21,11 +21,14 @@ SECTIONS {
     .cleared (NOLOAD) : {
         cleared_start = .;
         *(.bss .bss.* .sbss .sbss.* COMMON)
-        . = ALIGN(4);
+        . = ALIGN(8);
         cleared_end = .;
     }
     program_size = program_end - program_start;
     cleared_size = cleared_end - cleared_start;
+    heap_start = cleared_end;
+    heap_end = 0x801F8000;
+    ASSERT(heap_start <= heap_end, "the program leaves fewer than 32 KB for the stack")
 
     /DISCARD/ : { *(.reginfo) *(.MIPS.abiflags) *(.pdr) *(.mdebug*) *(.gnu.attributes) *(.comment) *(.note*) *(.eh_frame*) }
 }

@@ -1,5 +1,5 @@
-# The header of the file, the program's first instructions and the calls that C makes, for the GNU assembler.
-# The linker script psexe.ld places them and gives the names that begin with program_ and cleared_.
+# The header of the file and the program's first instruction, for the GNU assembler.
+# The linker script psexe.ld places them, and gives the names that begin with program_ and cleared_.
 
         .section .header, "a"
         .ascii  "PS-X EXE"
@@ -21,19 +21,4 @@
         .globl  begin
 begin:
         j       main
-        nop
-
-# A call: its number in r9, then a jump to its gate. The arguments are in r4 on and the answer in r2, as C has them.
-        .globl  putchar
-putchar:
-        li      $9, 0x3C
-        li      $10, 0xA0
-        jr      $10
-        nop
-
-        .globl  exit
-exit:
-        li      $9, 0x06
-        li      $10, 0xA0
-        jr      $10
         nop
