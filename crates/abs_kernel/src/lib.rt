@@ -8,7 +8,5 @@ pub mod equations;
 pub mod heap_laws;
 pub mod laws;
 pub mod printf_laws;
-#[cfg(test)]
-mod tests;
 
 pub use calls::{CallId, ROWS, Row, args, name, rows, served};

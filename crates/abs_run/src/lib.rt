@@ -5,7 +5,5 @@
 
 pub mod coverage;
 pub mod laws;
-#[cfg(test)]
-mod tests;
 
 pub use coverage::{Coverage, Everything};

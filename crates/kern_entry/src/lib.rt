@@ -22,8 +22,6 @@ pub mod stops;
 pub mod sys;
 pub mod take_up;
 pub mod tasks;
-#[cfg(test)]
-mod tests;
 pub mod work;
 
 pub use placing::{apart, place_code, place_vector};

@@ -12,7 +12,5 @@ pub mod c03_sys_deq_int_rp;
 pub mod laws;
 pub mod places;
 pub mod placing;
-#[cfg(test)]
-mod tests;
 
 pub use placing::place;

@@ -17,7 +17,5 @@ pub mod laws;
 pub mod line_laws;
 pub mod places;
 pub mod placing;
-#[cfg(test)]
-mod tests;
 
 pub use placing::place;

@@ -12,7 +12,5 @@ pub mod join;
 pub mod places;
 pub mod placing;
 pub mod release;
-#[cfg(test)]
-mod tests;
 
 pub use placing::place;

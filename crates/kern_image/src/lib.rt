@@ -10,7 +10,5 @@ pub mod places;
 pub mod serving;
 pub mod stays;
 mod tables;
-#[cfg(test)]
-mod tests;
 
 pub use image::{Image, build};

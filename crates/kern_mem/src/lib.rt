@@ -15,7 +15,5 @@ pub mod laws;
 pub mod move_laws;
 pub mod places;
 pub mod placing;
-#[cfg(test)]
-mod tests;
 
 pub use placing::place;

@@ -28,8 +28,6 @@ pub mod number;
 pub mod padding;
 pub mod places;
 pub mod placing;
-#[cfg(test)]
-mod tests;
 pub mod text;
 
 pub use placing::place;

@@ -6,5 +6,3 @@ pub mod copy_half;
 pub mod places;
 pub mod placing;
 pub mod room;
-#[cfg(test)]
-mod tests;

@@ -29,8 +29,6 @@ pub mod places;
 pub mod placing;
 pub mod prefix;
 pub mod skip;
-#[cfg(test)]
-mod tests;
 pub mod token_laws;
 
 pub use placing::place;

@@ -7,7 +7,5 @@ pub mod b10_change_thread;
 pub mod b17_return_from_exception;
 pub mod places;
 pub mod placing;
-#[cfg(test)]
-mod tests;
 
 pub use placing::place;

@@ -8,7 +8,5 @@ pub mod b06_restart_timer;
 pub mod laws;
 pub mod places;
 pub mod placing;
-#[cfg(test)]
-mod tests;
 
 pub use placing::place;

@@ -1,9 +1,9 @@
 //! Words of the listings that each crate places, encoded by hand from the R3000A manual's instruction formats.
-use crate::copy::{copy, switches};
-use crate::copy_half::copy_half;
-use crate::placing::{put_listing, put_words};
-use crate::room::{room, room_is_left};
 use kern_layout::KernelBlock;
+use kern_stay::copy::{copy, switches};
+use kern_stay::copy_half::copy_half;
+use kern_stay::placing::{put_listing, put_words};
+use kern_stay::room::{room, room_is_left};
 use std::test::Fail;
 
 #[test]

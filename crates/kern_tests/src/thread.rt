@@ -1,11 +1,11 @@
 //! Words of the block behind `place`, encoded by hand from the R3000A manual's instruction formats.
-use crate::b0e_open_thread::open_thread;
-use crate::b0f_close_thread::close_thread;
-use crate::b10_change_thread::change_thread;
-use crate::b17_return_from_exception::return_from_exception;
-use crate::place;
-use crate::placing::{apart, thread_serves};
 use kern_layout::KernelBlock;
+use kern_thread::b0e_open_thread::open_thread;
+use kern_thread::b0f_close_thread::close_thread;
+use kern_thread::b10_change_thread::change_thread;
+use kern_thread::b17_return_from_exception::return_from_exception;
+use kern_thread::place;
+use kern_thread::placing::{apart, thread_serves};
 use std::test::Fail;
 
 #[test]

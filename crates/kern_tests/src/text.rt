@@ -1,37 +1,37 @@
 //! Words of the block behind `place`, encoded by hand from the R3000A manual's instruction formats.
-use crate::a0d_strtol::strtol;
-use crate::a0e_abs::abs;
-use crate::a1a_strncpy::strncpy;
-use crate::a1b_strlen::strlen;
-use crate::a1e_strchr::strchr;
-use crate::a1f_strrchr::strrchr;
-use crate::a10_atoi::atoi;
-use crate::a15_strcat::strcat;
-use crate::a16_strncat::strncat;
-use crate::a17_strcmp::strcmp;
-use crate::a18_strncmp::strncmp;
-use crate::a19_strcpy::strcpy;
-use crate::a20_strpbrk::strpbrk;
-use crate::a21_strspn::strspn;
-use crate::a22_strcspn::strcspn;
-use crate::a23_strtok::strtok;
-use crate::a24_strstr::strstr;
-use crate::a25_toupper::toupper;
-use crate::a26_tolower::tolower;
-use crate::blanks::blanks;
-use crate::copy_laws::strcpy_copies;
-use crate::digits::digits;
-use crate::laws::{
+use kern_layout::KernelBlock;
+use kern_text::a0d_strtol::strtol;
+use kern_text::a0e_abs::abs;
+use kern_text::a1a_strncpy::strncpy;
+use kern_text::a1b_strlen::strlen;
+use kern_text::a1e_strchr::strchr;
+use kern_text::a1f_strrchr::strrchr;
+use kern_text::a10_atoi::atoi;
+use kern_text::a15_strcat::strcat;
+use kern_text::a16_strncat::strncat;
+use kern_text::a17_strcmp::strcmp;
+use kern_text::a18_strncmp::strncmp;
+use kern_text::a19_strcpy::strcpy;
+use kern_text::a20_strpbrk::strpbrk;
+use kern_text::a21_strspn::strspn;
+use kern_text::a22_strcspn::strcspn;
+use kern_text::a23_strtok::strtok;
+use kern_text::a24_strstr::strstr;
+use kern_text::a25_toupper::toupper;
+use kern_text::a26_tolower::tolower;
+use kern_text::blanks::blanks;
+use kern_text::copy_laws::strcpy_copies;
+use kern_text::digits::digits;
+use kern_text::laws::{
     no_text_is_as_long_as_the_definitions_go_on, strcmp_answers_0_for_equal_texts_alone,
     strlen_counts_the_bytes_before_the_zero,
 };
-use crate::number_laws::{atoi_reads_decimals, strtol_reads_numerals, strtol_reads_prefixed};
-use crate::place;
-use crate::placing::{apart, text_serves};
-use crate::prefix::prefix;
-use crate::skip::skip;
-use crate::token_laws::tokens;
-use kern_layout::KernelBlock;
+use kern_text::number_laws::{atoi_reads_decimals, strtol_reads_numerals, strtol_reads_prefixed};
+use kern_text::place;
+use kern_text::placing::{apart, text_serves};
+use kern_text::prefix::prefix;
+use kern_text::skip::skip;
+use kern_text::token_laws::tokens;
 use std::test::Fail;
 
 #[test]

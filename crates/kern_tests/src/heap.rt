@@ -1,15 +1,15 @@
 //! Words of the block behind `place`, encoded by hand from the R3000A manual's instruction formats.
-use crate::a33_malloc::malloc;
-use crate::a34_free::free;
-use crate::a37_calloc::calloc;
-use crate::a38_realloc::realloc;
-use crate::a39_init_heap::init_heap;
-use crate::allot::allot;
-use crate::find::find;
-use crate::join::join;
-use crate::place;
-use crate::placing::{apart, heap_serves};
-use crate::release::release;
+use kern_heap::a33_malloc::malloc;
+use kern_heap::a34_free::free;
+use kern_heap::a37_calloc::calloc;
+use kern_heap::a38_realloc::realloc;
+use kern_heap::a39_init_heap::init_heap;
+use kern_heap::allot::allot;
+use kern_heap::find::find;
+use kern_heap::join::join;
+use kern_heap::place;
+use kern_heap::placing::{apart, heap_serves};
+use kern_heap::release::release;
 use kern_layout::KernelBlock;
 use std::test::Fail;
 

@@ -1,5 +1,5 @@
-use crate::coverage::Everything;
-use crate::laws::{
+use abs_run::coverage::Everything;
+use abs_run::laws::{
     board_boots, board_runs, every_run, items_determine, lists_are_served, words_are_kept,
 };
 

@@ -1,16 +1,16 @@
 //! Words of the block behind `place`, encoded by hand from the R3000A manual's instruction formats.
-use crate::a2a_memcpy::memcpy;
-use crate::a2b_memset::memset;
-use crate::a2e_memchr::memchr;
-use crate::a2f_rand::rand;
-use crate::a13_setjmp::setjmp;
-use crate::a14_longjmp::longjmp;
-use crate::a30_srand::srand;
-use crate::a44_flush_cache::flush_cache;
-use crate::laws::{longjmp_comes_back, memcpy_copies, memset_fills, reading_keeps};
-use crate::place;
-use crate::placing::{apart, mem_serves};
 use kern_layout::KernelBlock;
+use kern_mem::a2a_memcpy::memcpy;
+use kern_mem::a2b_memset::memset;
+use kern_mem::a2e_memchr::memchr;
+use kern_mem::a2f_rand::rand;
+use kern_mem::a13_setjmp::setjmp;
+use kern_mem::a14_longjmp::longjmp;
+use kern_mem::a30_srand::srand;
+use kern_mem::a44_flush_cache::flush_cache;
+use kern_mem::laws::{longjmp_comes_back, memcpy_copies, memset_fills, reading_keeps};
+use kern_mem::place;
+use kern_mem::placing::{apart, mem_serves};
 use std::test::Fail;
 
 #[test]

@@ -1,14 +1,14 @@
 //! Words of the block behind `place`, encoded by hand from the R3000A manual's instruction formats.
-use crate::conversion::{conversion, flag, length, precision, width};
-use crate::emission::{digits, null_bytes, sign, text_bytes};
-use crate::format::{format, printf};
-use crate::kind::{argument, kind};
-use crate::number::{byte, count, fill, number, zeros};
-use crate::padding::{left, padding, right};
-use crate::place;
-use crate::placing::{apart, printf_serves, serves};
-use crate::text::{measure, null_text, text};
 use kern_layout::KernelBlock;
+use kern_printf::conversion::{conversion, flag, length, precision, width};
+use kern_printf::emission::{digits, null_bytes, sign, text_bytes};
+use kern_printf::format::{format, printf};
+use kern_printf::kind::{argument, kind};
+use kern_printf::number::{byte, count, fill, number, zeros};
+use kern_printf::padding::{left, padding, right};
+use kern_printf::place;
+use kern_printf::placing::{apart, printf_serves, serves};
+use kern_printf::text::{measure, null_text, text};
 use psx_flow::size_of;
 use std::test::Fail;
 

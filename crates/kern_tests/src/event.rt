@@ -1,15 +1,15 @@
 //! Words of the block behind `place`, encoded by hand from the R3000A manual's instruction formats.
-use crate::b0a_wait_event::wait_event;
-use crate::b0b_test_event::test_event;
-use crate::b07_deliver_event::deliver_event;
-use crate::b08_open_event::open_event;
-use crate::b09_close_event::{close_event, disable_event, enable_event};
-use crate::b20_undeliver_event::undeliver_event;
-use crate::c02_sys_enq_int_rp::sys_enq_int_rp;
-use crate::c03_sys_deq_int_rp::sys_deq_int_rp;
-use crate::laws::{bad_handle_keeps, handle_stays_good, ready_once, taken_back};
-use crate::place;
-use crate::placing::{apart, event_serves};
+use kern_event::b0a_wait_event::wait_event;
+use kern_event::b0b_test_event::test_event;
+use kern_event::b07_deliver_event::deliver_event;
+use kern_event::b08_open_event::open_event;
+use kern_event::b09_close_event::{close_event, disable_event, enable_event};
+use kern_event::b20_undeliver_event::undeliver_event;
+use kern_event::c02_sys_enq_int_rp::sys_enq_int_rp;
+use kern_event::c03_sys_deq_int_rp::sys_deq_int_rp;
+use kern_event::laws::{bad_handle_keeps, handle_stays_good, ready_once, taken_back};
+use kern_event::place;
+use kern_event::placing::{apart, event_serves};
 use kern_layout::KernelBlock;
 use std::test::Fail;
 

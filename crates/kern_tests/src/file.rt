@@ -1,20 +1,20 @@
 //! Words of the block behind `place`, encoded by hand from the R3000A manual's instruction formats.
-use crate::a00_open::open_file;
-use crate::a02_read::read;
-use crate::a03_write::write;
-use crate::a3b_getchar::getchar;
-use crate::a3c_putchar::putchar;
-use crate::a3d_gets::gets;
-use crate::a3e_puts::puts;
-use crate::a04_close::close;
-use crate::a08_getc::getc;
-use crate::a09_putc::putc;
-use crate::b54_get_last_error::get_last_error;
-use crate::laws::{opened, refused, sent};
-use crate::line_laws::{lines, tries};
-use crate::place;
-use crate::places::GETCHAR;
-use crate::placing::{apart, file_serves};
+use kern_file::a00_open::open_file;
+use kern_file::a02_read::read;
+use kern_file::a03_write::write;
+use kern_file::a3b_getchar::getchar;
+use kern_file::a3c_putchar::putchar;
+use kern_file::a3d_gets::gets;
+use kern_file::a3e_puts::puts;
+use kern_file::a04_close::close;
+use kern_file::a08_getc::getc;
+use kern_file::a09_putc::putc;
+use kern_file::b54_get_last_error::get_last_error;
+use kern_file::laws::{opened, refused, sent};
+use kern_file::line_laws::{lines, tries};
+use kern_file::place;
+use kern_file::places::GETCHAR;
+use kern_file::placing::{apart, file_serves};
 use kern_layout::KernelBlock;
 use std::test::Fail;
 

@@ -1,4 +1,4 @@
-use crate::build;
+use kern_image::build;
 
 // Bytes by hand from the R3000A manual's encodings and the memory map.
 #[test]

@@ -1,4 +1,4 @@
-use crate::{CallId, ROWS, args, name, served};
+use abs_kernel::{CallId, ROWS, args, name, served};
 use psx_base::Table;
 use std::process::Abort;
 use std::test::Fail;

@@ -1,12 +1,12 @@
 //! Words of the block behind `place`, encoded by hand from the R3000A manual's instruction formats.
-use crate::b02_init_timer::init_timer;
-use crate::b03_get_timer::get_timer;
-use crate::b04_enable_timer_irq::{disable_timer_irq, enable_timer_irq};
-use crate::b06_restart_timer::restart_timer;
-use crate::laws::{counters_are_read, counters_begin, lines_are_masked, other_numbers};
-use crate::place;
-use crate::placing::{apart, timer_serves};
 use kern_layout::KernelBlock;
+use kern_timer::b02_init_timer::init_timer;
+use kern_timer::b03_get_timer::get_timer;
+use kern_timer::b04_enable_timer_irq::{disable_timer_irq, enable_timer_irq};
+use kern_timer::b06_restart_timer::restart_timer;
+use kern_timer::laws::{counters_are_read, counters_begin, lines_are_masked, other_numbers};
+use kern_timer::place;
+use kern_timer::placing::{apart, timer_serves};
 use std::test::Fail;
 
 #[test]

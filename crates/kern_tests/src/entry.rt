@@ -1,17 +1,17 @@
 //! Words of the block behind `place`, encoded by hand from the R3000A manual's instruction formats.
-use crate::back::back;
-use crate::deliver::deliver;
-use crate::elements::elements;
-use crate::interrupts::interrupts;
-use crate::law::{
+use kern_entry::back::back;
+use kern_entry::deliver::deliver;
+use kern_entry::elements::elements;
+use kern_entry::interrupts::interrupts;
+use kern_entry::law::{
     frames_serve, interrupts_serve, own_calls, routines_return, stays_begin, tasks_serve,
 };
-use crate::push::push;
-use crate::scan::scan;
-use crate::stepwise::words_walk;
-use crate::take_up::take_up;
-use crate::work::work;
-use crate::{apart, place_code, place_vector};
+use kern_entry::push::push;
+use kern_entry::scan::scan;
+use kern_entry::stepwise::words_walk;
+use kern_entry::take_up::take_up;
+use kern_entry::work::work;
+use kern_entry::{apart, place_code, place_vector};
 use kern_layout::KernelBlock;
 use std::test::Fail;
 
