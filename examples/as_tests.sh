@@ -12,7 +12,7 @@ quoted() {
 shows=shows schedule=
 if [ -f "$name.sched" ]; then shows=shows_with schedule=" SCHEDULE,"; fi
 echo "//! Written by examples/as_tests.sh from the files of examples/."
-echo "use test_hosts::$shows;"
+echo "use crate::hosts::$shows;"
 echo
 # A text whose first line is long begins a line of its own, as the formatter has it.
 printf 'const TEXT: &[u8] = b"%s\n";\n\n' "$(quoted "$name.s")" | sed '1 { /^.\{101\}/ s/ = b"/ =\n    b"/ }'

@@ -1,6 +1,7 @@
 //! The calls on memory, texts and random numbers, each made by a program on the image.
+use crate::hosts::{runs_to, shows};
 use psx_base::Out;
-use test_hosts::{runs_to, shows, stands_in};
+use test_hosts::stands_in;
 
 #[test]
 fn toupper_changes_the_small_letters_of_the_low_byte(rt: HostRuntime) {

@@ -1,6 +1,6 @@
 //! The calls that compare texts, find a byte and make small letters, each made by a program on the image.
+use crate::hosts::shows;
 use std::process::Abort;
-use test_hosts::shows;
 
 // Makes the call of each row of five words: the number, three arguments, the answer. It exits with 0 where each answers so, else with the address behind the first row that doesn't.
 // The last byte of main memory and that of the scratchpad are an x: a text without a zero.

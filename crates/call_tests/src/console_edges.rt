@@ -1,8 +1,8 @@
 //! The calls on the console at their edges: a text that the budget cuts, the numbers of table B, a line without bytes and one at the end of memory. Each call is made by a program on the image.
+use crate::hosts::{host_of, host_with, shows_with};
 use psx_base::{MemoryHost, Out};
 use psxk_run::psxk;
 use std::process::Abort;
-use test_hosts::{host_of, host_with, shows_with};
 
 // Runs a program with a budget, by which it is to end: the host behind the run.
 fn cut<R: AllocGlobal + Abort>(rt: &R, program: &[u8], budget: u32) -> MemoryHost {

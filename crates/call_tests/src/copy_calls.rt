@@ -1,5 +1,5 @@
 //! The calls that copy texts, each made by a program on the image.
-use test_hosts::shows;
+use crate::hosts::shows;
 
 // What is behind the zero stays.
 #[test]

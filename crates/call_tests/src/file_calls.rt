@@ -1,8 +1,9 @@
 //! The calls on files that don't wait, each made by a program on the image.
+use crate::hosts::{host_of, host_with, shows};
 use psx_base::{MemoryHost, Out};
 use psxk_run::psxk;
 use std::process::Abort;
-use test_hosts::{RUN, host_of, host_with, shows};
+use test_hosts::RUN;
 
 // What follows each program: `keep` makes the call of r9 by the gate of r10, and keeps its answer and the last error behind r17, from 80020000h on.
 const KEEP: &[u8] = b"

@@ -1,7 +1,8 @@
 //! What interrupts call: the functions of events and of the chains' elements, in programs on the image.
+use crate::hosts::runs_to;
 use crate::timed::{count_of, runs_behind, times};
 use psx_base::Out;
-use test_hosts::{runs_to, stands_in};
+use test_hosts::stands_in;
 
 const LINE_0: &[u8] = b" line 0\n";
 

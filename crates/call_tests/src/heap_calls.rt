@@ -1,8 +1,8 @@
 //! The calls of the heap, each made by a program on the image.
+use crate::hosts::{host_with, program};
 use psx_base::{MemoryHost, Out};
 use psxk_run::psxk;
 use std::process::Abort;
-use test_hosts::{host_with, program};
 
 // The numbers of the calls in table A.
 const MEMSET: u32 = 0x2B;

@@ -1,8 +1,9 @@
 //! Interrupts of programs on the image, by the lines that a schedule raises.
+use crate::hosts::runs_to;
 use crate::timed::{count_of, push_entry, runs_behind, times};
 use psx_base::{MemoryHost, Out};
 use std::process::Abort;
-use test_hosts::{runs_to, stands_in};
+use test_hosts::stands_in;
 
 const LINE_0: &[u8] = b" line 0\n";
 

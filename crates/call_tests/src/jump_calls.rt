@@ -1,6 +1,7 @@
 //! setjmp, longjmp and FlushCache, each made by a program on the image.
+use crate::hosts::{runs_to, shows};
 use psx_base::Out;
-use test_hosts::{runs_to, shows, stands_in};
+use test_hosts::stands_in;
 
 #[test]
 fn longjmp_returns_to_the_place_of_setjmp(rt: HostRuntime) {

@@ -31,6 +31,8 @@ mod heap_calls;
 #[cfg(test)]
 mod heap_walk;
 #[cfg(test)]
+mod hosts;
+#[cfg(test)]
 mod interrupt_calls;
 #[cfg(test)]
 mod jump_calls;

@@ -1,6 +1,6 @@
 //! The calls that copy, compare and clear bytes, each made by a program on the image.
+use crate::hosts::{runs_to, shows};
 use psx_base::Out;
-use test_hosts::{runs_to, shows};
 
 // The text is moved one byte up, then another one two bytes down, so that each byte is one that it was before. Each answers where to.
 #[test]

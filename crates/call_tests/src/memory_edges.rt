@@ -1,6 +1,6 @@
 //! memcpy, memset, bcopy and strncpy at their edges: no bytes, the ends of user memory, a destination before its source. Each call is made by a program on the image.
+use crate::hosts::{runs_to, shows};
 use psx_base::Out;
-use test_hosts::{runs_to, shows};
 
 // The counts are 0, -1 and the least one: no address is looked at, and each answers where to.
 #[test]

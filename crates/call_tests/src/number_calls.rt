@@ -1,5 +1,5 @@
 //! strtoul, strtol, atoi, atol, abs and labs, each made by a program on the image.
-use test_hosts::shows;
+use crate::hosts::shows;
 
 // strtol of "-5z" in base 10 answers -5, and the rest is the z; strtoul of "0x1F" in base 0 answers 31.
 #[test]

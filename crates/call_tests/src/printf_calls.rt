@@ -1,7 +1,7 @@
 //! printf, called by programs on the image. What they write is what C's printf writes, where C says it, and else what PSX-SPX and calls.md fix.
+use crate::hosts::{runs_to, shows};
 use psx_base::{MemoryHost, Out};
 use std::process::Abort;
-use test_hosts::{runs_to, shows};
 
 // printf is called for each row of eight words: the format, r5 to r7, and the words from sp+16 on. The program ends with the sum of the answers.
 const CALLS: &[u8] = b"

@@ -1,8 +1,8 @@
 //! Programs that call by the gates B0h and C0h and say what is answered, on the image.
+use crate::hosts::{host_of, host_with};
 use psx_base::{MemoryHost, Out};
 use psxk_run::psxk;
 use std::process::Abort;
-use test_hosts::{host_of, host_with};
 
 // The words that run a program with a configuration.
 pub(crate) const RUN_SIZED: [&str; 5] = ["run", "a.exe", "-", "2000000", "c"];

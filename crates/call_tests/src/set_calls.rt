@@ -1,5 +1,5 @@
 //! strpbrk, strspn, strcspn, strtok and strstr, each made by a program on the image.
-use test_hosts::shows;
+use crate::hosts::shows;
 
 // The run of a and b is 3 long, and that of other bytes behind it is 2 long; the first of c and d is the one at 4.
 #[test]

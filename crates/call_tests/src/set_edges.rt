@@ -1,5 +1,5 @@
 //! strpbrk, strspn, strcspn, strtok and strstr at their edges: the scratchpad, the ends of user memory, a set of no bytes, a set within the text. Each call is made by a program on the image.
-use test_hosts::shows;
+use crate::hosts::shows;
 
 // The text is copied to the scratchpad, which has the same bytes in two segments.
 #[test]

@@ -1,6 +1,6 @@
 //! OpenThread, CloseThread and ChangeThread, each made by a program on the image.
+use crate::hosts::shows;
 use std::process::Abort;
-use test_hosts::shows;
 
 // It is stored with 1 in r2 and taken up again: LO and the other registers are as they were.
 #[test]

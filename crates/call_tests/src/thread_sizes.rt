@@ -1,8 +1,8 @@
 //! The calls on threads with each number of threads that a configuration may have.
+use crate::hosts::{host_of, host_with};
 use psx_base::{MemoryHost, Out};
 use psxk_run::psxk;
 use std::process::Abort;
-use test_hosts::{host_of, host_with};
 
 // A host that was sent the program of a text in two parts.
 fn assembled<R: AllocGlobal + Abort>(rt: &R, head: &[u8], rest: &[u8]) -> MemoryHost {

@@ -1,7 +1,7 @@
 //! Runs whose schedule takes a count from a first run without one, and what is read from their traces.
+use crate::hosts::runs_to;
 use psx_base::{MemoryHost, Out};
 use std::process::Abort;
-use test_hosts::runs_to;
 
 // The count in the n-th line of a trace that begins with a letter, from 1 on; 0 where there is none.
 pub(crate) fn count_of(trace: &[u8], letter: u8, n: usize) -> u64 {

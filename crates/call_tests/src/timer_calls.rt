@@ -1,8 +1,9 @@
 //! The calls on root counters, made by programs on the image. What is expected is the public description's, and no count of the kernel's steps: those fall out of each difference.
+use crate::hosts::{host_of, host_with};
 use psx_base::{MemoryHost, Out};
 use psxk_run::psxk;
 use std::process::Abort;
-use test_hosts::{host_of, host_with, stands_in};
+use test_hosts::stands_in;
 
 // The words that run a program.
 const RUN: [&str; 5] = ["run", "a.exe", "-", "200000", "c"];

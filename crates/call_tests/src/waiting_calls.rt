@@ -1,7 +1,7 @@
 //! The calls that take bytes of the console, and wait, each made by a program on the image. The program begins at the count 38941, and a byte of the schedule comes when its count does.
+use crate::hosts::{runs_to, shows_with};
 use psx_base::Out;
 use std::process::Abort;
-use test_hosts::{runs_to, shows_with};
 
 const GETCHAR: &[u8] = b"
 start:

@@ -1,10 +1,11 @@
 //! What a call leaves of a program's registers, and what the SYSCALLs do with the interrupts' mask.
 ghost use Rattle.std.specs.Prelude.{◌<◌, length};
 
+use crate::hosts::{host_of, program};
 use psx_base::Out;
 use psxk_run::psxk;
 use std::process::Abort;
-use test_hosts::{RUN, host_of, program};
+use test_hosts::RUN;
 
 // A program's trace has these bytes.
 fn trace_has<R: AllocGlobal + Abort>(rt: &R, words: &[u32], part: &[u8])

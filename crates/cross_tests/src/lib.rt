@@ -3,6 +3,8 @@
 #![tactic(auto)]
 
 #[cfg(test)]
+mod hosts;
+#[cfg(test)]
 mod kept_registers;
 #[cfg(test)]
 mod one_text_commands;

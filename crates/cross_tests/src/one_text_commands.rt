@@ -1,8 +1,9 @@
 //! The commands that send one text: the ROM, the printed words of a program, and the program of an assembly text.
+use crate::hosts::{host_of, host_with, program};
 use psx_base::{MemoryHost, Out};
 use psxk_run::psxk;
 use std::process::Abort;
-use test_hosts::{HELLO, ROOM, RUN, host_of, host_with, program};
+use test_hosts::{HELLO, ROOM, RUN};
 
 #[test]
 fn sends_the_image(rt: HostRuntime) {

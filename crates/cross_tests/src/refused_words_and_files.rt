@@ -1,8 +1,9 @@
 //! Words, files and hosts that a run isn't made or told with.
+use crate::hosts::{host_of, program};
 use psx_base::{MemoryHost, NoFailHost, Out};
 use psxk_run::psxk;
 use std::process::Abort;
-use test_hosts::{HELLO, HELLO_TRACE, RUN, host_of, program};
+use test_hosts::{HELLO, HELLO_TRACE, RUN};
 
 #[test]
 fn knows_its_words(rt: HostRuntime) {

@@ -1,8 +1,9 @@
 //! Runs with a schedule and a configuration.
+use crate::hosts::{host_of, program};
 use psx_base::{MemoryHost, Out};
 use psxk_run::psxk;
 use std::process::Abort;
-use test_hosts::{HELLO, HELLO_TRACE, host_of, program};
+use test_hosts::{HELLO, HELLO_TRACE};
 
 const WORDS: [&str; 5] = ["run", "a.exe", "s", "2000000", "c"];
 

@@ -1,8 +1,9 @@
 //! Whole runs of programs over hosts in memory. The expected counts are those of the image's words, counted by hand.
+use crate::hosts::{host_of, program};
 use psx_base::Out;
 use psxk_run::psxk;
 use std::process::Abort;
-use test_hosts::{HELLO, HELLO_TRACE, RUN, host_of, program};
+use test_hosts::{HELLO, HELLO_TRACE, RUN};
 
 #[test]
 fn prints_a_letter_and_exits(rt: HostRuntime) {

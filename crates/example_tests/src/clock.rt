@@ -1,5 +1,5 @@
 //! Written by examples/as_tests.sh from the files of examples/.
-use test_hosts::shows;
+use crate::hosts::shows;
 
 const TEXT: &[u8] =
     b"# A clock: root counter 2 comes to its target at each 20,000 steps, and the function of its event counts the ticks. The program waits for five of them and prints each.

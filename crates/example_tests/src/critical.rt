@@ -1,5 +1,5 @@
 //! Written by examples/as_tests.sh from the files of examples/.
-use test_hosts::shows;
+use crate::hosts::shows;
 
 const TEXT: &[u8] =
     b"# A critical section: SYSCALL with r4 1 turns interrupts off and answers in r2 whether they were on, with r4 2 it turns them on.

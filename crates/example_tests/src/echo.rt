@@ -1,5 +1,5 @@
 //! Written by examples/as_tests.sh from the files of examples/.
-use test_hosts::shows_with;
+use crate::hosts::shows_with;
 
 const TEXT: &[u8] = b"# Copies each byte that comes to the console back to it, until a byte 04h.
 # getchar waits: where no byte is due the kernel goes back to the gate's address, and the call is made again by itself.

@@ -1,5 +1,5 @@
 //! Written by examples/as_tests.sh from the files of examples/.
-use test_hosts::shows;
+use crate::hosts::shows;
 
 const TEXT: &[u8] =
     b"# A linked list in the heap: an element for each letter of a text, with the next element's address at 0 and the letter at 4.

@@ -17,6 +17,8 @@ mod heap;
 #[cfg(test)]
 mod hello;
 #[cfg(test)]
+mod hosts;
+#[cfg(test)]
 mod load_delay;
 #[cfg(test)]
 mod memchr;

@@ -1,5 +1,5 @@
 //! Written by examples/as_tests.sh from the files of examples/.
-use test_hosts::shows;
+use crate::hosts::shows;
 
 const TEXT: &[u8] =
     b"# Calls on the bytes of memory: bzero, bcopy, memmove and memcmp. Then setjmp and longjmp: a routine goes back to a place that was marked before it was called.

@@ -1,5 +1,5 @@
 //! Written by examples/as_tests.sh from the files of examples/.
-use test_hosts::shows;
+use crate::hosts::shows;
 
 const TEXT: &[u8] =
     b"# strtol reads the numbers of a line one by one, in the base that each one's prefix says, and tells where the rest begins; abs drops the sign of their sum.

@@ -1,5 +1,5 @@
 //! Written by examples/as_tests.sh from the files of examples/.
-use test_hosts::shows_with;
+use crate::hosts::shows_with;
 
 const TEXT: &[u8] =
     b"# Two threads that a vertical blank preempts: its event's function names the other thread, which runs when the function has returned. The schedule raises the line six times.

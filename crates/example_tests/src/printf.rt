@@ -1,5 +1,5 @@
 //! Written by examples/as_tests.sh from the files of examples/.
-use test_hosts::shows;
+use crate::hosts::shows;
 
 const TEXT: &[u8] =
     b"# printf with a conversion of each kind. The arguments behind the format are r5 to r7, and then words from sp+16 on, so the program makes room for those on its stack.

@@ -1,5 +1,5 @@
 //! Written by examples/as_tests.sh from the files of examples/.
-use test_hosts::shows;
+use crate::hosts::shows;
 
 const TEXT: &[u8] =
     b"# Four threads pass a token round a ring, a hundred times. Each has its letter in gp and counts its turns in r16; at each 25th turn it writes the letter.

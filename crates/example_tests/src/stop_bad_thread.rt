@@ -1,5 +1,5 @@
 //! Written by examples/as_tests.sh from the files of examples/.
-use test_hosts::shows;
+use crate::hosts::shows;
 
 const TEXT: &[u8] =
     b"# The stop BadThread: a handle names no thread, or ChangeThread is called with that of a free slot. Its fields are the handle as it is given and the caller's r31.

@@ -1,5 +1,5 @@
 //! Written by examples/as_tests.sh from the files of examples/.
-use test_hosts::shows;
+use crate::hosts::shows;
 
 const TEXT: &[u8] =
     b"# The stop SlotBranch: a branch or jump in the delay slot of another. Its field is the second one's address.

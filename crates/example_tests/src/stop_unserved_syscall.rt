@@ -1,5 +1,5 @@
 //! Written by examples/as_tests.sh from the files of examples/.
-use test_hosts::shows;
+use crate::hosts::shows;
 
 const TEXT: &[u8] =
     b"# The stop Unserved of a SYSCALL: the table's letter is Y, the number is r4, and the last field is the SYSCALL's own address.

@@ -1,5 +1,5 @@
 //! Written by examples/as_tests.sh from the files of examples/.
-use test_hosts::shows;
+use crate::hosts::shows;
 
 const TEXT: &[u8] =
     b"# The stop UserData: a load or store of the program at an address that isn't user memory. Its fields are the instruction's address and that one.

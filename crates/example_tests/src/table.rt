@@ -1,5 +1,5 @@
 //! Written by examples/as_tests.sh from the files of examples/.
-use test_hosts::shows;
+use crate::hosts::shows;
 
 const TEXT: &[u8] =
     b"# A loop over a table of bytes: prints each as a digit by table B's putchar, and ends by _exit with their sum.

@@ -1,5 +1,5 @@
 //! Written by examples/as_tests.sh from the files of examples/.
-use test_hosts::shows;
+use crate::hosts::shows;
 
 const TEXT: &[u8] =
     b"# The text calls: a line is put together, compared, searched, and split into its words.

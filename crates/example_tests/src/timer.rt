@@ -1,5 +1,5 @@
 //! Written by examples/as_tests.sh from the files of examples/.
-use test_hosts::shows;
+use crate::hosts::shows;
 
 const TEXT: &[u8] =
     b"# Counts by a root counter how many steps a loop takes: once with one turn, and once with 101. What both have in common, as the calls of the counter, falls out of the difference.

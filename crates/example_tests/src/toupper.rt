@@ -1,5 +1,5 @@
 //! Written by examples/as_tests.sh from the files of examples/.
-use test_hosts::shows;
+use crate::hosts::shows;
 
 const TEXT: &[u8] = b"# toupper gives each byte of a text as its capital, and putchar writes it.
 # The calls keep r16 and r17.
