@@ -8,7 +8,7 @@ const FROM: u32 = 0x8001_0000;
 const TO: u32 = 0x801F_FFFF;
 
 // What a text gives.
-fn object(rt: &impl Abort, alloc: Global, text: &[u8]) -> Object {
+pub(crate) fn object(rt: &impl Abort, alloc: Global, text: &[u8]) -> Object {
     assemble(alloc, text, FROM, TO).expect(rt, "no fault")
 }
 
@@ -25,7 +25,7 @@ fn bytes(rt: &impl Abort, alloc: Global, text: &[u8]) -> Vec<u8> {
 }
 
 // The words of the only part of what a text gives.
-fn words(rt: &impl Abort, alloc: Global, text: &[u8]) -> Vec<u32> {
+pub(crate) fn words(rt: &impl Abort, alloc: Global, text: &[u8]) -> Vec<u32> {
     let found = bytes(rt, alloc, text);
     let mut words = Vec::new(alloc);
     for word in found.as_slice().chunks_exact(4) {

@@ -1,4 +1,4 @@
-//! Tests of the processor, the board, the listings, the assembler and the printer, by what their crates show to others.
+//! Tests of the processor, the board, the listings, the assembler, the printer and the workload, by what their crates show to others.
 //! They stand here, since a crate with tests of its own is proved a second time with them, and these are the dear ones.
 #![tactic(auto)]
 
@@ -12,3 +12,5 @@ mod cpu;
 mod dis;
 #[cfg(test)]
 mod flow;
+#[cfg(test)]
+mod workload;
