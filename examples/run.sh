@@ -1,5 +1,6 @@
 #!/usr/bin/env bash
 # Makes and runs each example, with the schedule NAME.sched and the budget NAME.budget where there are such files, and compares what it writes and where it stops with NAME.out and NAME.end.
+# Where there is a compiler of C, the interpreter of bench/ runs each too, and what the program wrote, the trace and the last memory have to be the same byte for byte.
 # The program is crates/psxk/out/psxk, or the one that PSXK names. The examples in C are made with make and a gcc for MIPS, by c/makefile, and left out where one of these isn't there.
 # Words on the command line are the names of the examples to be run, as `hello` or `c/hello`; without any all are.
 set -uo pipefail
@@ -62,6 +63,27 @@ check() {
     [ "$stop" = "S $end" ] || differs "the last line of its trace is $(tail -n 1 psxk.trace)"
     cmp found expected || differs "it wrote $(cat found)"
     [ "$status" -eq "$wanted" ] || differs "run ended with $status"
+    [ ! -x "$room/board" ] || compare
+}
+
+# The same run by the interpreter in C.
+compare() {
+    "$room/board" "$room/image.bin" program.exe "$schedule" "$budget" >report
+    status=$?
+    [ "$status" -eq "$wanted" ] || differs "the interpreter in C ended with $status: $(cat report)"
+    cmp board.tty "$examples/$name.out" || differs "the interpreter in C wrote something else"
+    cmp board.trace psxk.trace || differs "the interpreter in C has another trace"
+    cmp board.bin psxk.bin || differs "the interpreter in C has another memory at the end"
+}
+
+# Builds the interpreter in C and writes the image that it runs.
+make_interpreter() {
+    if ! command -v "${CC:-gcc}" >/dev/null; then
+        echo "examples: not compared with the interpreter of bench/, since there is no ${CC:-gcc}"
+    elif ! (cd "$room" && "$examples/../bench/build.sh" board && "$psxk" image && mv psxk.bin image.bin); then
+        echo "examples: the interpreter of bench/ wasn't built, or the image wasn't written"
+        failed=$((failed + 1))
+    fi
 }
 
 # The first tool that the examples in C need and that isn't there.
@@ -84,6 +106,7 @@ if [ $# -eq 0 ]; then
 fi
 missing=$(missing_tool)
 passed=0 failed=0
+make_interpreter
 for name in *.s; do
     if ! is_tested "${name%.s}"; then
         echo "examples: crates/example_tests has another test of ${name%.s}: write it anew by examples/as_tests.sh"
