@@ -132,8 +132,9 @@ static void load_config(const char *name, struct start *start) {
 int main(int words, char **word) {
     static struct entry entries[MOST_ENTRIES];
     static uint8_t due[MOST_ENTRIES];
-    uint64_t budget = words == 5 || words == 6 ? strtoull(word[4], NULL, 10) : 0;
-    if (budget == 0 || budget > 4000000000) refuse(USAGE, "usage:", "IMAGE EXE SCHED BUDGET [CNF]");
+    char *behind = NULL;
+    uint64_t budget = words == 5 || words == 6 ? strtoull(word[4], &behind, 10) : 0;
+    if (budget == 0 || budget > 4000000000 || *behind) refuse(USAGE, "usage:", "IMAGE EXE SCHED BUDGET [CNF]");
     load_image(word[1]);
     struct start start = load_exe(word[2]);
     size_t entry_count = load_schedule(word[3], entries);
