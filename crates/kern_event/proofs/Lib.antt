@@ -9,4 +9,8 @@ pub mod ChainsHeld
 pub mod C03SysDeqIntRp
 pub mod C02SysEnqIntRp
 pub mod Lawful
+pub mod FramesKept
+pub mod EventsReached
+pub mod EventsOnce
+pub mod DeliveryEvaluated
 pub mod Served

@@ -9,6 +9,7 @@ pub mod b0b_test_event;
 pub mod b20_undeliver_event;
 pub mod c02_sys_enq_int_rp;
 pub mod c03_sys_deq_int_rp;
+pub mod delivery_laws;
 pub mod laws;
 pub mod places;
 pub mod placing;
