@@ -4,11 +4,12 @@ use Rattle.psx_base.specs.declared.host.Out.{Out}
 use Rattle.psx_base.specs.declared.host.Out.TheVariants.{Tty, Ram, Report}
 use Rattle.psx_base.specs.Host.{Rose}
 use Rattle.kern_image.specs.Rom.{rom}
+use Rattle.psxk_run.specs.declared.inputs.Inputs.{Inputs}
 use Rattle.psxk_run.specs.declared.refusal.Refusal.{Refusal}
 use Rattle.psxk_run.specs.declared.refusal.Refusal.TheVariants.{Program, Schedule, Config, Unread, Memory, Text}
-use Rattle.psxk_run.specs.Command.{RunWords, Command, ToRun, ToImage, ToPrint, ToAssemble}
-use Rattle.psxk_run.specs.Commands.{Loads, Refuses, Causes, Decides}
-use Rattle.psxk_run.specs.Inputs.{IsLoaded}
+use Rattle.psxk_run.specs.Command.{Command, ToRun, ToImage, ToPrint, ToAssemble, ToGenerate}
+use Rattle.psxk_run.specs.Commands.{Loads, Refuses, Causes, Decides, OfWorkload}
+use Rattle.psxk_run.specs.Inputs.{IsLoaded, workload_inputs, workload_budget}
 use Rattle.psxk_run.specs.Printing.{printing}
 use Rattle.psxk_run.specs.Refusals.{line_of}
 use Rattle.psxk_run.specs.Refusals as refusals
@@ -43,6 +44,8 @@ reason held before now (ToAssemble name) (Text fault) cause = cause
 reason held before now (ToAssemble name) (Unread other) cause = (sym cause.0, subst (λ (n : List ℕ). Rose (before n) (now n)) (sym cause.0) cause.1)
 reason held before now (ToAssemble name) Memory cause = cause
 reason held before now (ToAssemble name) _ cause = absurd cause
+reason held before now (ToGenerate rounds) Memory cause = cause
+reason held before now (ToGenerate rounds) _ cause = absurd cause
 
 -- ---- the clauses
 
@@ -151,10 +154,10 @@ module _ {H : Type 0} (holds : H → List ℕ → Option (List ℕ)) (sent : H �
   abbrev last : Moment
   last = moment holds sent loads sends new
 
-  done-run : (c : RunWords) (r : EndsRun start last c result) → RunsProgram (sent old) (sent new) (sends old) (sends new) (run_of r.inputs c.budget) result → (result ≡ 0) ⊎ (result ≡ 1) → Ran holds sent old new c result
-  done-run c r (inl memory) d = not-done result (omega (arith, memory.0)) d
-  done-run c r (inr (inl all)) d = record { inputs = r.inputs; given = r.given; texts = all.1; success = all.0; kernel = r.kernel; in_time = r.in_time }
-  done-run c r (inr (inr failed)) d = not-done result (omega (arith, failed.0)) d
+  done-run : (inputs : Inputs) (budget : ℕ) (r : EndsRun start last inputs budget result) → RunsProgram (sent old) (sent new) (sends old) (sends new) (run_of inputs budget) result → (result ≡ 0) ⊎ (result ≡ 1) → Ran sent old new inputs budget result
+  done-run inputs budget r (inl memory) d = not-done result (omega (arith, memory.0)) d
+  done-run inputs budget r (inr (inl all)) d = record { texts = all.1; success = all.0; kernel = r.kernel; in_time = r.in_time }
+  done-run inputs budget r (inr (inr failed)) d = not-done result (omega (arith, failed.0)) d
 
   done-text : (out : Out) (text : List ℕ) → MakesText (sent old) (sent new) (sends old) (sends new) out text result → (result ≡ 0) ⊎ (result ≡ 1) → (result ≡ 0) × SentAlone (sent old) (sent new) out text
   done-text out text (inl memory) d = not-done result (omega (arith, memory.0)) d
@@ -172,10 +175,11 @@ module _ {H : Type 0} (holds : H → List ℕ → Option (List ℕ)) (sent : H �
       record { placed = a.placed; given = a.given; text = t.1; success = t.0 }
 
   done-work : (c : Command) → EndsWork start last c result → (result ≡ 0) ⊎ (result ≡ 1) → IsDone holds sent old new c result
-  done-work (ToRun c) w d = done-run c w w.ran d
+  done-work (ToRun c) w d = record { inputs = w.inputs; given = w.given; ran = done-run w.inputs c.budget w.run w.run.ran d }
   done-work ToImage w d = done-text Ram rom w.sends d
   done-work (ToPrint name) w d = done-print name w d
   done-work (ToAssemble name) w d = done-assemble name w d
+  done-work (ToGenerate rounds) w d = done-run (workload_inputs rounds) workload_budget w w.ran d
 
   pub is-done : (c : Command) → CommandEnds start last c result → (result ≡ 0) ⊎ (result ≡ 1) → IsDone holds sent old new c result
   is-done c (ByWork w) d = done-work c w d
@@ -188,27 +192,39 @@ module _ {H : Type 0} (holds : H → List ℕ → Option (List ℕ)) (sent : H �
   image-decides (inl e) = inl e
   image-decides (inr e) = inr (inr e)
 
+  workload-decides : (rounds : ℕ) → (result ≤ 1) ⊎ ((result ≡ 6) ⊎ (result ≡ 7)) → Decides (holds old) (ToGenerate rounds) result
+  workload-decides rounds (inl low) = inl low
+  workload-decides rounds (inr e) = inr (inr e)
+
+  no_workload-decides : (rounds : ℕ) (refusal : Refusal) → OfWorkload refusal → (result ≡ refusals.status_of refusal) ⊎ (result ≡ 6) → Decides (holds old) (ToGenerate rounds) result
+  no_workload-decides rounds Memory cause (inl e) = inr (inr (inr e))
+  no_workload-decides rounds Memory cause (inr e) = inr (inr (inl e))
+  no_workload-decides rounds _ cause e = absurd cause
+
   work-decides : (c : Command) → EndsWork start last c result → Decides (holds old) c result
   work-decides (ToRun c) w = answers-inputs (holds old) (loads old) (loads new) c result w.inputs w.given (work-status holds sent loads sends old new (ToRun c) result w)
   work-decides ToImage w = image-decides (text-decides Ram rom w.sends)
   work-decides (ToPrint name) w = answers-program (holds old) (loads old) (loads new) name result w.exe w.given (text-decides Tty (printing w.exe) w.text.sends)
   work-decides (ToAssemble name) w = answers-text (holds old) (loads old) (loads new) name result w.placed w.given (text-decides Ram (assembling w.placed) w.text.sends)
+  work-decides (ToGenerate rounds) w = workload-decides rounds (work-status holds sent loads sends old new (ToGenerate rounds) result w)
 
   refusal-decides : (c : Command) (refusal : Refusal) → Causes (holds old) (loads old) (loads new) c refusal → (result ≡ refusals.status_of refusal) ⊎ (result ≡ 6) → Decides (holds old) c result
   refusal-decides (ToRun c) refusal cause e = answers-refusal (holds old) (loads old) (loads new) c result refusal cause e
   refusal-decides ToImage refusal cause e = absurd cause
   refusal-decides (ToPrint name) refusal cause e = answers-no_program (holds old) (loads old) (loads new) name result refusal cause e
   refusal-decides (ToAssemble name) refusal cause e = answers-no_text (holds old) (loads old) (loads new) name result refusal cause e
+  refusal-decides (ToGenerate rounds) refusal cause e = no_workload-decides rounds refusal cause e
 
   pub decides : (c : Command) → CommandEnds start last c result → Decides (holds old) c result
   decides c (ByWork w) = work-decides c w
   decides c (ByRefusal r) = refusal-decides c r.refusal r.cause (said holds sent loads sends old new c result r)
 
   part-work : (c : Command) → EndsWork start last c result → DoneInPart holds sent old new c
-  part-work (ToRun c) w = record { inputs = w.inputs; given = w.given; texts = w.fronts }
+  part-work (ToRun c) w = record { inputs = w.inputs; given = w.given; texts = w.run.fronts }
   part-work ToImage w = w.front
   part-work (ToPrint name) w = record { exe = w.exe; given = w.given; text = w.text.front }
   part-work (ToAssemble name) w = record { placed = w.placed; given = w.given; text = w.text.front }
+  part-work (ToGenerate rounds) w = w.fronts
 
   pub in-part : (c : Command) → CommandEnds start last c result → SentInPart holds sent old new c
   in-part c (ByWork w) = InWork (part-work c w)

@@ -6,7 +6,7 @@ use Rattle.psx_base.specs.Host.{Rose}
 use Rattle.psx_board.specs.Run.{Outcome}
 use Rattle.psxk_run.specs.declared.refusal.Refusal.{Refusal}
 use Rattle.psxk_run.specs.declared.refusal.Refusal.TheVariants.{Program, Schedule, Config, Unread, Memory, Text}
-use Rattle.psxk_run.specs.Command.{Command, ToRun, ToImage, ToPrint, ToAssemble}
+use Rattle.psxk_run.specs.Command.{Command, ToRun, ToImage, ToPrint, ToAssemble, ToGenerate}
 use Rattle.psxk_run.specs.Ends.{Moment, EndsWork}
 use Rattle.psxk_run.specs.Refusals as refusals
 use Rattle.psxk_run.specs.Reports.{memory_line}
@@ -30,10 +30,11 @@ carried-text before now fb fn out text status (inr (inl sends)) = inr (inl (omeg
 carried-text before now fb fn out text status (inr (inr failed)) = inr (inr failed)
 
 pub carried : (old new : Moment) (c : Command) (status : ℕ) → EndsWork old new c status → Carried old.sent new.sent old.sends new.sends status
-carried old new (ToRun c) status w = carried-run old.sent new.sent old.sends new.sends _ status w.ran
+carried old new (ToRun c) status w = carried-run old.sent new.sent old.sends new.sends _ status w.run.ran
 carried old new ToImage status w = carried-text old.sent new.sent old.sends new.sends _ _ status w.sends
 carried old new (ToPrint name) status w = carried-text old.sent new.sent old.sends new.sends _ _ status w.text.sends
 carried old new (ToAssemble name) status w = carried-text old.sent new.sent old.sends new.sends _ _ status w.text.sends
+carried old new (ToGenerate rounds) status w = carried-run old.sent new.sent old.sends new.sends _ status w.ran
 
 -- so its status is 0, 1, 6 or 7
 pub carried-status : (before now : Out → Option (List ℕ)) (fb fn status : ℕ) → Carried before now fb fn status → (status ≤ 1) ⊎ ((status ≡ 6) ⊎ (status ≡ 7))

@@ -1,5 +1,6 @@
 -- What the words of the command line ask for.
 use Rattle.std.specs.Prelude.{ℕ, ◌+◌, ◌*◌, ◌-◌, List, [], ◌∷◌, Option, Some, None, if◌then◌else◌, ◌&&◌, nat_le, ◌==◌, codes}
+use Rattle.std.specs.Option.{option_map}
 use Rattle.std.specs.Str.{bytes_eq}
 
 -- the number that the digits give behind a number that was read, where they are digits and it is at most 4,000,000,000
@@ -12,6 +13,15 @@ value_of before (digit ∷ rest) =
 abbrev pub budget_of : List ℕ → Option ℕ
 budget_of [] = None
 budget_of (first ∷ rest) = if first == 48 then None else value_of 0 (first ∷ rest)
+
+-- a number that is at most 1,000
+abbrev pub few : Option ℕ → Option ℕ
+few None = None
+few (Some n) = if nat_le n 1000 then Some n else None
+
+-- a decimal number from 1 to 1,000 without sign and leading zeros
+abbrev pub rounds_of : List ℕ → Option ℕ
+rounds_of word = few (budget_of word)
 
 -- a run: the names of a program, of a schedule and of a configuration, where they are loaded, and a budget
 pub record RunWords : Type 0 where
@@ -26,6 +36,7 @@ pub data Command : Type 0 where
   ToImage : Command
   ToPrint : (name : List ℕ) → Command
   ToAssemble : (name : List ℕ) → Command
+  ToGenerate : (rounds : ℕ) → Command
 
 -- the word `-` is the empty schedule, and loads nothing
 abbrev pub schedule_of : List ℕ → Option (List ℕ)
@@ -35,9 +46,11 @@ schedule_of word = if bytes_eq word (codes "-") then None else Some word
 abbrev pub alone : List ℕ → Option Command
 alone word = if bytes_eq word (codes "image") then Some ToImage else None
 
--- two words: `dis EXE` and `asm TEXT`
+-- two words: `dis EXE`, `asm TEXT` and `gen N`
 abbrev pub with_name : List ℕ → List ℕ → Option Command
-with_name word name = if bytes_eq word (codes "dis") then Some (ToPrint name) else (if bytes_eq word (codes "asm") then Some (ToAssemble name) else None)
+with_name word name =
+    if bytes_eq word (codes "dis") then Some (ToPrint name) else
+    (if bytes_eq word (codes "asm") then Some (ToAssemble name) else (if bytes_eq word (codes "gen") then option_map ToGenerate (rounds_of name) else None))
 
 abbrev pub asked : List ℕ → List ℕ → Option (List ℕ) → Option ℕ → Option Command
 asked name schedule config None = None

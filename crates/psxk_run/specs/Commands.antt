@@ -4,8 +4,8 @@ use Rattle.psx_exe.specs.declared.exe.Exe.{Exe}
 use Rattle.psx_exe.specs.declared.fault.ExeError.{ExeError}
 use Rattle.psxk_run.specs.declared.inputs.Inputs.{Inputs}
 use Rattle.psxk_run.specs.declared.refusal.Refusal.{Refusal}
-use Rattle.psxk_run.specs.declared.refusal.Refusal.TheVariants.{Program, Text}
-use Rattle.psxk_run.specs.Command.{Command, ToRun, ToImage, ToPrint, ToAssemble}
+use Rattle.psxk_run.specs.declared.refusal.Refusal.TheVariants.{Program, Text, Memory}
+use Rattle.psxk_run.specs.Command.{Command, ToRun, ToImage, ToPrint, ToAssemble, ToGenerate}
 use Rattle.psxk_run.specs.Inputs.{IsKnown, IsTold, Names, Gives, GivesProgram, IsCause, OfProgram, GivesPlaced, OfText}
 use Rattle.psxk_run.specs.Refusals.{status_of}
 use Rattle.psx_asm.specs.declared.fault.AsmError.{AsmError}
@@ -17,6 +17,7 @@ Loads Known (ToRun c) name = Names Known c name
 Loads Known ToImage name = ⊥
 Loads Known (ToPrint exe) name = exe ≡ name
 Loads Known (ToAssemble text) name = text ≡ name
+Loads Known (ToGenerate rounds) name = ⊥
 
 -- the program of `dis` has a fault
 abbrev pub RefusesProgram : IsKnown → List ℕ → Refusal → Type 0
@@ -34,6 +35,12 @@ Refuses Known (ToRun c) refusal = Gives Known c (Err refusal)
 Refuses Known ToImage refusal = ⊥
 Refuses Known (ToPrint name) refusal = RefusesProgram Known name refusal
 Refuses Known (ToAssemble name) refusal = RefusesText Known name refusal
+Refuses Known (ToGenerate rounds) refusal = ⊥
+
+-- the workload is refused for want of memory alone
+abbrev pub OfWorkload : Refusal → Type 0
+OfWorkload Memory = Unit {0}
+OfWorkload _ = ⊥
 
 -- why a command was refused: a fault of a file, a load that failed by the host's count, or want of memory
 abbrev pub Causes : (List ℕ → Option (List ℕ)) → (before now : List ℕ → ℕ) → Command → Refusal → Type 0
@@ -41,6 +48,7 @@ Causes held before now (ToRun c) refusal = IsCause held before now c refusal
 Causes held before now ToImage refusal = ⊥
 Causes held before now (ToPrint name) refusal = OfProgram held before now name refusal
 Causes held before now (ToAssemble name) refusal = OfText held before now name refusal
+Causes held before now (ToGenerate rounds) refusal = OfWorkload refusal
 
 -- a load or a send failed, or memory was wanting
 abbrev pub IsHindered : ℕ → Type 0
@@ -67,3 +75,4 @@ Decides held (ToRun c) status = (answer : Result Inputs Refusal) → Gives (IsTo
 Decides held ToImage status = (status ≡ 0) ⊎ IsHindered status
 Decides held (ToPrint name) status = (answer : Result Exe ExeError) → GivesProgram (IsTold held) name answer → AnswersProgram answer status
 Decides held (ToAssemble name) status = (answer : Result Placed AsmError) → GivesPlaced (IsTold held) name answer → AnswersText answer status
+Decides held (ToGenerate rounds) status = (status ≤ 1) ⊎ IsHindered status

@@ -1,5 +1,5 @@
 -- How a command ends, in one relation: carried out, or refused.
-use Rattle.std.specs.Prelude.{◌⊎◌, ℕ, List, Option, Ok}
+use Rattle.std.specs.Prelude.{ℕ, List, Option, Ok}
 use Rattle.psx_base.specs.declared.host.Out.{Out}
 use Rattle.psx_base.specs.declared.host.Out.TheVariants.{Tty, Ram, Report}
 use Rattle.psxk_run.specs.declared.inputs.Inputs.{Inputs}
@@ -7,15 +7,14 @@ use Rattle.psxk_run.specs.declared.refusal.Refusal.{Refusal}
 use Rattle.psx_exe.specs.declared.exe.Exe.{Exe}
 use Rattle.abs_run.specs.InTime.{InterruptsInTime}
 use Rattle.kern_image.specs.Rom.{rom}
-use Rattle.psxk_run.specs.Command.{RunWords, Command, ToRun, ToImage, ToPrint, ToAssemble}
+use Rattle.psxk_run.specs.Command.{RunWords, Command, ToRun, ToImage, ToPrint, ToAssemble, ToGenerate}
 use Rattle.psxk_run.specs.Commands.{Causes}
-use Rattle.psxk_run.specs.Inputs.{IsLoaded, GivesAll, GivesProgram, GivesPlaced}
+use Rattle.psxk_run.specs.Inputs.{IsLoaded, GivesAll, GivesProgram, GivesPlaced, workload_inputs, workload_budget}
 use Rattle.psxk_run.specs.Printing.{printing}
 use Rattle.psxk_run.specs.Refusals.{line_of, status_of}
-use Rattle.psxk_run.specs.Reports.{memory_line}
 use Rattle.psxk_run.specs.Sent.{GrewFront, OnlyReports, Says}
 use Rattle.psxk_run.specs.Top.{run_of, IsKernelRun, RunsProgram, MakesText}
-use Rattle.psxk_run.specs.InPart.{HasFronts, ReportsFront, TextInPart}
+use Rattle.psxk_run.specs.InPart.{RunInPart, TextInPart}
 use Rattle.psxk_run.specs.Assembling.{assembling}
 use Rattle.psx_asm.specs.Assembly.{Placed}
 
@@ -29,14 +28,18 @@ pub record Moment : Type 0 where
 abbrev pub moment : {H : Type 0} → (H → List ℕ → Option (List ℕ)) → (H → Out → Option (List ℕ)) → (H → List ℕ → ℕ) → (H → ℕ) → H → Moment
 moment holds sent loads sends h = record { holds = holds h; sent = sent h; loads = loads h; sends = sends h }
 
+-- the run of inputs
+pub record EndsRun (old new : Moment) (inputs : Inputs) (budget status : ℕ) : Type 0 where
+  pub ran : RunsProgram old.sent new.sent old.sends new.sends (run_of inputs budget) status
+  pub fronts : RunInPart old.sent new.sent (run_of inputs budget)
+  pub kernel : IsKernelRun inputs (run_of inputs budget)
+  pub in_time : InterruptsInTime (run_of inputs budget).items
+
 -- the run of the inputs that all files gave
-pub record EndsRun (old new : Moment) (c : RunWords) (status : ℕ) : Type 0 where
+pub record EndsFiles (old new : Moment) (c : RunWords) (status : ℕ) : Type 0 where
   pub inputs : Inputs
   pub given : GivesAll (IsLoaded old.holds) c inputs
-  pub ran : RunsProgram old.sent new.sent old.sends new.sends (run_of inputs c.budget) status
-  pub fronts : HasFronts old.sent new.sent (run_of inputs c.budget) ⊎ ReportsFront old.sent new.sent memory_line
-  pub kernel : IsKernelRun inputs (run_of inputs c.budget)
-  pub in_time : InterruptsInTime (run_of inputs c.budget).items
+  pub run : EndsRun old new inputs c.budget status
 
 -- a text that was made and sent
 pub record EndsText (old new : Moment) (out : Out) (text : List ℕ) (status : ℕ) : Type 0 where
@@ -57,10 +60,11 @@ pub record EndsAssembling (old new : Moment) (name : List ℕ) (status : ℕ) : 
 
 -- a command that was carried out
 abbrev pub EndsWork : Moment → Moment → Command → ℕ → Type 0
-EndsWork old new (ToRun c) status = EndsRun old new c status
+EndsWork old new (ToRun c) status = EndsFiles old new c status
 EndsWork old new ToImage status = EndsText old new Ram rom status
 EndsWork old new (ToPrint name) status = EndsPrinting old new name status
 EndsWork old new (ToAssemble name) status = EndsAssembling old new name status
+EndsWork old new (ToGenerate rounds) status = EndsRun old new (workload_inputs rounds) workload_budget status
 
 -- a refusal and its report
 pub record EndsRefused (old new : Moment) (c : Command) (status : ℕ) : Type 0 where

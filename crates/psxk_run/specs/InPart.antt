@@ -7,9 +7,9 @@ use Rattle.psxk_run.specs.declared.inputs.Inputs.{Inputs}
 use Rattle.psxk_run.specs.declared.refusal.Refusal.{Refusal}
 use Rattle.psx_exe.specs.declared.exe.Exe.{Exe}
 use Rattle.kern_image.specs.Rom.{rom}
-use Rattle.psxk_run.specs.Command.{RunWords, Command, ToRun, ToImage, ToPrint, ToAssemble}
+use Rattle.psxk_run.specs.Command.{RunWords, Command, ToRun, ToImage, ToPrint, ToAssemble, ToGenerate}
 use Rattle.psxk_run.specs.Commands.{Loads, Refuses}
-use Rattle.psxk_run.specs.Inputs.{IsLoaded, GivesAll, GivesProgram, GivesPlaced}
+use Rattle.psxk_run.specs.Inputs.{IsLoaded, GivesAll, GivesProgram, GivesPlaced, workload_inputs, workload_budget}
 use Rattle.psxk_run.specs.Refusals.{line_of}
 use Rattle.psxk_run.specs.Printing.{printing}
 use Rattle.psxk_run.specs.Sent.{Grew, GrewFront, OnlyReports, FrontAlone}
@@ -32,11 +32,15 @@ pub record HasFronts (before now : Out → Option (List ℕ)) (o : Outcome) : Ty
   pub late : (now Ram ≡ before Ram) ⊎ (Grew (before Tty) (now Tty) o.tty × Grew (before Trace) (now Trace) (trace_text o.items))
   pub report : GrewFront (before Report) (now Report) (report_of o.stop)
 
--- all files were loaded and accepted, and of the run's texts fronts were sent, or of the line of want of memory
+-- of a run's texts fronts were sent, or of the line of want of memory
+abbrev pub RunInPart : (Out → Option (List ℕ)) → (Out → Option (List ℕ)) → Outcome → Type 0
+RunInPart before now o = HasFronts before now o ⊎ ReportsFront before now memory_line
+
+-- all files were loaded and accepted, and of the run's texts fronts were sent
 pub record RanInPart {H : Type 0} (holds : H → List ℕ → Option (List ℕ)) (sent : H → Out → Option (List ℕ)) (old new : H) (c : RunWords) : Type 0 where
   pub inputs : Inputs
   pub given : GivesAll (IsLoaded (holds old)) c inputs
-  pub texts : HasFronts (sent old) (sent new) (run_of inputs c.budget) ⊎ ReportsFront (sent old) (sent new) memory_line
+  pub texts : RunInPart (sent old) (sent new) (run_of inputs c.budget)
 
 -- of the one text of a command a front was sent and nothing else, or of the line of want of memory
 abbrev pub TextInPart : (Out → Option (List ℕ)) → (Out → Option (List ℕ)) → Out → List ℕ → Type 0
@@ -60,6 +64,7 @@ DoneInPart holds sent old new (ToRun c) = RanInPart holds sent old new c
 DoneInPart holds sent old new ToImage = TextInPart (sent old) (sent new) Ram rom
 DoneInPart holds sent old new (ToPrint name) = PrintedInPart holds sent old new name
 DoneInPart holds sent old new (ToAssemble name) = AssembledInPart holds sent old new name
+DoneInPart holds sent old new (ToGenerate rounds) = RunInPart (sent old) (sent new) (run_of (workload_inputs rounds) workload_budget)
 
 -- the files that were loaded have a fault, and of its line a front was reported
 pub record RefusedInPart {H : Type 0} (holds : H → List ℕ → Option (List ℕ)) (sent : H → Out → Option (List ℕ)) (old new : H) (c : Command) : Type 0 where

@@ -10,6 +10,7 @@ use Rattle.psx_exe.specs.declared.fault.ExeError.{ExeError}
 use Rattle.psx_exe.specs.Reading.{read_of}
 use Rattle.psx_asm.specs.declared.fault.AsmError.{AsmError}
 use Rattle.psx_asm.specs.Assembly.{Placed, IsAssemblyOf}
+use Rattle.psx_gen.specs.Workload.{program, blanks}
 use Rattle.abs_run.specs.Accepted.{IsAccepted, AreBytes}
 use Rattle.psxk_run.specs.declared.configuration.ConfError.{ConfError}
 use Rattle.psxk_run.specs.declared.inputs.Inputs.{Inputs}
@@ -125,6 +126,14 @@ pub record IsRunnable (inputs : Inputs) : Type 0 where
   pub bytes : AreBytes inputs.schedule
   pub threads : (4 ≤ inputs.sizes.threads) × (inputs.sizes.threads ≤ 16)
   pub events : (16 ≤ inputs.sizes.events) × (inputs.sizes.events ≤ 64)
+
+-- what the workload of so many rounds is run with
+abbrev pub workload_inputs : ℕ → Inputs
+workload_inputs rounds = record { exe = program rounds; schedule = blanks rounds; sizes = plain_sizes }
+
+-- and the most steps that it may take
+abbrev pub workload_budget : ℕ
+workload_budget = 50000000
 
 -- what an assembly text places in the window, or its first fault
 pub record GivesPlaced (Known : IsKnown) (name : List ℕ) (answer : Result Placed AsmError) : Type 0 where

@@ -10,9 +10,9 @@ use Rattle.abs_run.specs.InTime.{InterruptsInTime}
 use Rattle.kern_image.specs.Rom.{rom}
 use Rattle.psxk_run.specs.declared.inputs.Inputs.{Inputs}
 use Rattle.psxk_run.specs.declared.refusal.Refusal.{Refusal}
-use Rattle.psxk_run.specs.Command.{RunWords, Command, ToRun, ToImage, ToPrint, ToAssemble}
+use Rattle.psxk_run.specs.Command.{RunWords, Command, ToRun, ToImage, ToPrint, ToAssemble, ToGenerate}
 use Rattle.psxk_run.specs.Commands.{Loads, Refuses}
-use Rattle.psxk_run.specs.Inputs.{IsLoaded, GivesAll, GivesProgram, GivesPlaced}
+use Rattle.psxk_run.specs.Inputs.{IsLoaded, GivesAll, GivesProgram, GivesPlaced, workload_inputs, workload_budget}
 use Rattle.psxk_run.specs.Refusals.{line_of}
 use Rattle.psxk_run.specs.Refusals as refusals
 use Rattle.psxk_run.specs.Printing.{printing}
@@ -37,14 +37,18 @@ run_of inputs budget = board_run rom inputs.exe inputs.sizes inputs.schedule bud
 abbrev pub IsKernelRun : Inputs → Outcome → Type 0
 IsKernelRun inputs o = KernelRun inputs.exe inputs.sizes o.items o.tty o.last.core.bytes
 
--- all files were loaded and accepted, and what the board's run within the budget sends was sent; that run is one of the kernel machine, and its interrupts return in time
-pub record Ran {H : Type 0} (holds : H → List ℕ → Option (List ℕ)) (sent : H → Out → Option (List ℕ)) (old new : H) (c : RunWords) (status : ℕ) : Type 0 where
+-- what the board's run of these inputs within the budget sends was sent; that run is one of the kernel machine, and its interrupts return in time
+pub record Ran {H : Type 0} (sent : H → Out → Option (List ℕ)) (old new : H) (inputs : Inputs) (budget : ℕ) (status : ℕ) : Type 0 where
+  pub texts : HasTexts (sent old) (sent new) (run_of inputs budget)
+  pub success : status ≡ status_of (run_of inputs budget).stop
+  pub kernel : IsKernelRun inputs (run_of inputs budget)
+  pub in_time : InterruptsInTime (run_of inputs budget).items
+
+-- all files were loaded and accepted, and run
+pub record RanFiles {H : Type 0} (holds : H → List ℕ → Option (List ℕ)) (sent : H → Out → Option (List ℕ)) (old new : H) (c : RunWords) (status : ℕ) : Type 0 where
   pub inputs : Inputs
   pub given : GivesAll (IsLoaded (holds old)) c inputs
-  pub texts : HasTexts (sent old) (sent new) (run_of inputs c.budget)
-  pub success : status ≡ status_of (run_of inputs c.budget).stop
-  pub kernel : IsKernelRun inputs (run_of inputs c.budget)
-  pub in_time : InterruptsInTime (run_of inputs c.budget).items
+  pub ran : Ran sent old new inputs c.budget status
 
 -- the program was loaded and accepted, and the printed words of its text were sent and nothing else
 pub record Printed {H : Type 0} (holds : H → List ℕ → Option (List ℕ)) (sent : H → Out → Option (List ℕ)) (old new : H) (name : List ℕ) (status : ℕ) : Type 0 where
@@ -60,12 +64,13 @@ pub record Assembled {H : Type 0} (holds : H → List ℕ → Option (List ℕ))
   pub text : SentAlone (sent old) (sent new) Ram (assembling placed)
   pub success : status ≡ 0
 
--- what was done for a command: the run, or its text was sent and nothing else
+-- what was done for a command: its run, or its text was sent and nothing else
 abbrev pub IsDone : {H : Type 0} → (H → List ℕ → Option (List ℕ)) → (H → Out → Option (List ℕ)) → H → H → Command → ℕ → Type 0
-IsDone holds sent old new (ToRun c) status = Ran holds sent old new c status
+IsDone holds sent old new (ToRun c) status = RanFiles holds sent old new c status
 IsDone holds sent old new ToImage status = (status ≡ 0) × SentAlone (sent old) (sent new) Ram rom
 IsDone holds sent old new (ToPrint name) status = Printed holds sent old new name status
 IsDone holds sent old new (ToAssemble name) status = Assembled holds sent old new name status
+IsDone holds sent old new (ToGenerate rounds) status = Ran sent old new (workload_inputs rounds) workload_budget status
 
 -- the files that were loaded have a fault, and the first one was reported with its status
 pub record IsRefused {H : Type 0} (holds : H → List ℕ → Option (List ℕ)) (sent : H → Out → Option (List ℕ)) (old new : H) (c : Command) (status : ℕ) : Type 0 where

@@ -1,8 +1,8 @@
 //! What the words of the command line ask for.
 ghost use Rattle.std.specs.Prelude.{◌≡◌, ◌<◌, ◌≤◌, ◌+◌, ◌*◌, ◌-◌, ◌^◌, ℕ, List, [], ◌∷◌, map, IfSome};
 ghost use Rattle.std.specs.Option.{option_map};
-ghost use Rattle.psxk_run.specs.Command.{budget_of, value_of, schedule_of, alone, with_name, asked, with_files, command_of};
-ghost use Rattle.psxk_run.specs.Told.{told, word_of, HasBudget};
+ghost use Rattle.psxk_run.specs.Command.{budget_of, value_of, schedule_of, alone, with_name, asked, with_files, command_of, rounds_of, ToGenerate};
+ghost use Rattle.psxk_run.specs.Told.{told, word_of, IsInRange};
 ghost use Rattle.psxk_run.specs.Words.{words_of};
 
 /// A run of a program.
@@ -29,6 +29,8 @@ pub enum Request<'a> {
     Print(&'a str),
     /// `asm`: the program of the assembly text that is loaded by this name.
     Assemble(&'a str),
+    /// `gen`: a run of the workload of so many rounds, 1 to 1,000.
+    Generate(u32),
 }
 
 // The number that the digits give.
@@ -66,6 +68,15 @@ pub fn budget(word: &str) -> Option<u32>
     value(bytes)
 }
 
+// A number of rounds, where the word is one.
+fn rounds(word: &str) -> Option<u32>
+    ensures value { result ≡ rounds_of word.now }
+    ensures some { IfSome result (λ n. (0 < n) × (n ≤ 1000)) }
+{
+    let number = budget(word)?;
+    if number <= 1000 { Some(number) } else { None }
+}
+
 // The name of a schedule: `-` is none.
 fn schedule_name<'a>(word: &'a str) -> Option<&'a str>
     ensures { word_of result ≡ schedule_of word.now }
@@ -76,7 +87,7 @@ fn schedule_name<'a>(word: &'a str) -> Option<&'a str>
 // What a word alone asks for.
 fn alone<'a>(word: &str) -> Option<Request<'a>>
     ensures asked { option_map told result ≡ alone word.now }
-    ensures budget { IfSome result HasBudget }
+    ensures range { IfSome result IsInRange }
 {
     if word == "image" {
         Some(Request::Image)
@@ -85,15 +96,26 @@ fn alone<'a>(word: &str) -> Option<Request<'a>>
     }
 }
 
+// A run of the workload by its number of rounds.
+fn workload_of<'a>(number: &str) -> Option<Request<'a>>
+    ensures asked { option_map told result ≡ option_map ToGenerate (rounds_of number.now) }
+    ensures range { IfSome result IsInRange }
+{
+    let rounds = rounds(number)?;
+    Some(Request::Generate(rounds))
+}
+
 // What a word and a name ask for.
 fn with_name<'a>(word: &str, name: &'a str) -> Option<Request<'a>>
     ensures asked { option_map told result ≡ with_name word.now name.now }
-    ensures budget { IfSome result HasBudget }
+    ensures range { IfSome result IsInRange }
 {
     if word == "dis" {
         Some(Request::Print(name))
     } else if word == "asm" {
         Some(Request::Assemble(name))
+    } else if word == "gen" {
+        workload_of(name)
     } else {
         None
     }
@@ -107,7 +129,7 @@ fn run_of<'a>(
     config: Option<&'a str>,
 ) -> Option<Request<'a>>
     ensures asked { option_map told result ≡ asked name.now schedule.now (word_of config.entry) (budget_of number.now) }
-    ensures budget { IfSome result HasBudget }
+    ensures range { IfSome result IsInRange }
 {
     let budget = budget(number)?;
     Some(Request::Run(Run {
@@ -127,7 +149,7 @@ fn with_files<'a>(
     config: Option<&'a str>,
 ) -> Option<Request<'a>>
     ensures asked { option_map told result ≡ with_files word.now name.now schedule.now number.now (word_of config.entry) }
-    ensures budget { IfSome result HasBudget }
+    ensures range { IfSome result IsInRange }
 {
     if word == "run" {
         run_of(name, schedule, number, config)
@@ -136,11 +158,11 @@ fn with_files<'a>(
     }
 }
 
-/// What the words ask for: `run EXE SCHED BUDGET` or `run EXE SCHED BUDGET CNF`, `image`, `dis EXE` or `asm TEXT`.
+/// What the words ask for: `run EXE SCHED BUDGET` or `run EXE SCHED BUDGET CNF`, `image`, `dis EXE`, `asm TEXT` or `gen N`.
 #[tactic(auto, unfolding(crate::specs::Command::command_of))]
 pub fn command<'a>(words: &[&'a str]) -> Option<Request<'a>>
     ensures asked { option_map told result ≡ command_of (words_of words.now) }
-    ensures budget { IfSome result HasBudget }
+    ensures range { IfSome result IsInRange }
 {
     match words {
         [] => None,

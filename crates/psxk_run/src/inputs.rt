@@ -4,7 +4,7 @@ ghost use Rattle.psx_base.specs.Host.{Rose, IsFront};
 ghost use Rattle.psx_base.specs.declared.host.Out.{Out};
 ghost use Rattle.psx_exe.specs.Reading.{IsReadable};
 ghost use Rattle.abs_run.specs.Accepted.{IsAccepted, AreBytes};
-ghost use Rattle.psxk_run.specs.Inputs.{IsLoaded, GivesProgram, GivesSchedule, GivesSizes, GivesAll, IsCause, IsRunnable, IsUnreadOf, OfProgram, OfSchedule, OfSizes, GivesPlaced, OfText};
+ghost use Rattle.psxk_run.specs.Inputs.{IsLoaded, GivesProgram, GivesSchedule, GivesSizes, GivesAll, IsCause, IsRunnable, IsUnreadOf, OfProgram, OfSchedule, OfSizes, GivesPlaced, OfText, workload_inputs};
 ghost use Rattle.psxk_run.specs.Sent.{GoesOn};
 ghost use Rattle.psxk_run.specs.Told.{told_run, word_of};
 ghost use Rattle.psxk_run.specs.Assembling.{AreInWindow};
@@ -16,8 +16,9 @@ use crate::command::Run;
 use crate::configuration::config;
 use crate::refusal::Refusal;
 use psx_asm::{AsmError, Object, assemble};
-use psx_base::{Host, LoadError, Sizes};
+use psx_base::{Host, LoadError, Memory, Sizes};
 use psx_exe::{Exe, ExeError};
+use psx_gen::workload;
 use psx_sched::{SchedError, Schedule};
 use std::alloc::Global;
 
@@ -26,6 +27,12 @@ const EXE_LIMIT: usize = 8_388_608;
 
 /// The most bytes that a schedule or a configuration may have.
 const TEXT_LIMIT: usize = 4_194_304;
+
+/// The sizes of the kernel's tables where the words give none.
+const PLAIN_SIZES: Sizes = Sizes {
+    threads: 4,
+    events: 16,
+};
 
 /// What a run is made from.
 #[derive(Drop)]
@@ -196,10 +203,7 @@ fn load_sizes<'a, H: Host>(
     ensures on { GoesOn H.holds H.load_faults H.send_faults host.old host.new }
 {
     let Some(name) = name else {
-        return Ok(Sizes {
-            threads: 4,
-            events: 16,
-        });
+        return Ok(PLAIN_SIZES);
     };
     let text = match load(alloc, host, name, TEXT_LIMIT) {
         Ok(text) => text,
@@ -239,4 +243,20 @@ pub(crate) fn prepare<'a, H: Host>(
         }),
         Err(refusal) => Err(refusal),
     }
+}
+
+/// Makes the workload of so many rounds.
+pub(crate) fn generate(alloc: Global, rounds: u32) -> Result<Inputs, Memory>
+    requires some { 0 < rounds }
+    requires most { rounds ≤ 1000 }
+    ensures inputs { IfOk result (λ inputs. inputs ≡ workload_inputs rounds) }
+    ensures runnable { IfOk result IsRunnable }
+{
+    let (exe, schedule) = workload(alloc, rounds)?;
+    accepted(&exe);
+    Ok(Inputs {
+        exe,
+        schedule,
+        sizes: PLAIN_SIZES,
+    })
 }

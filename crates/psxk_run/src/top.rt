@@ -7,16 +7,16 @@ ghost use Rattle.psx_board.specs.Run.{run};
 ghost use Rattle.psx_board.specs.Stands.{Stands};
 ghost use Rattle.kern_image.specs.Rom.{rom};
 ghost use Rattle.abs_run.specs.Accepted.{IsAccepted};
-ghost use Rattle.psxk_run.specs.Command.{command_of, ToRun, ToPrint, ToAssemble};
+ghost use Rattle.psxk_run.specs.Command.{command_of, ToRun, ToPrint, ToAssemble, ToGenerate};
 ghost use Rattle.psxk_run.specs.Commands.{Decides};
 ghost use Rattle.psxk_run.specs.Printing.{printing};
-ghost use Rattle.psxk_run.specs.Ends.{CommandEnds, moment};
+ghost use Rattle.psxk_run.specs.Ends.{CommandEnds, EndsRun, moment};
 ghost use Rattle.psxk_run.specs.InPart.{HasFronts, ReportsFront, TextInPart, WordsInPart};
 ghost use Rattle.psxk_run.specs.Inputs.{IsRunnable};
 ghost use Rattle.psxk_run.specs.Reports.{usage_line, memory_line};
 ghost use Rattle.psxk_run.specs.Sent.{Grew, GrewFront, GoesOn, OnlyReports, FrontAlone, Says, SendsText};
 ghost use Rattle.psxk_run.specs.Texts.{report_of, status_of};
-ghost use Rattle.psxk_run.specs.Told.{told, told_run, HasBudget};
+ghost use Rattle.psxk_run.specs.Told.{told, told_run, IsInRange};
 ghost use Rattle.psxk_run.specs.Top.{IsDone, IsRefused, IsUnread, IsFaulty, IsQuiet, IsStatus, RunsBoard, RunsProgram, MakesText, run_of};
 ghost use Rattle.psxk_run.specs.Words.{words_of, IfCommand};
 ghost use Rattle.psxk_run.specs.Assembling.{AreInWindow, assembling};
@@ -25,9 +25,9 @@ ghost use Rattle.psx_asm.specs.Assembly.{placed_by};
 
 use crate::assembling::assembling;
 use crate::command::{Request, Run, command};
-use crate::inputs::{Inputs, load_exe, load_text, prepare};
+use crate::inputs::{Inputs, generate, load_exe, load_text, prepare};
 use crate::printing::printing;
-use crate::refusal::{refuse, say, say_memory};
+use crate::refusal::{Refusal, refuse, say, say_memory};
 use crate::report::stop_line;
 use crate::run::{RunEnd, run_on};
 use kern_image::build;
@@ -39,6 +39,9 @@ use psx_exe::Exe;
 use std::alloc::Global;
 
 const USAGE: &[u8] = b"psxk: usage: run EXE SCHED BUDGET [CNF], image, asm TEXT, dis EXE, gen N\n";
+
+/// The most steps that the workload may take.
+const WORKLOAD_BUDGET: u32 = 50_000_000;
 
 // The status of a run that ends so.
 fn status_of(stop: Stop) -> u8
@@ -110,6 +113,17 @@ fn run_program<H: Host>(alloc: Global, host: &mut H, inputs: Inputs, budget: u32
     }
 }
 
+// Runs a program on a board with the image, by which it is a run of the kernel machine.
+fn run_inputs<H: Host>(alloc: Global, host: &mut H, inputs: Inputs, budget: u32) -> u8
+    requires runnable { IsRunnable inputs }
+    requires budget { 0 < budget }
+    ensures ends { EndsRun (moment H.holds H.sent H.load_faults H.send_faults host.old) (moment H.holds H.sent H.load_faults H.send_faults host.new) inputs budget result }
+    ensures on { GoesOn H.holds H.load_faults H.send_faults host.old host.new }
+{
+    serving();
+    run_program(alloc, host, inputs, budget)
+}
+
 // Runs the program of a run's files.
 fn run_files<H: Host>(alloc: Global, host: &mut H, run: Run) -> u8
     requires { 0 < run.budget }
@@ -117,11 +131,21 @@ fn run_files<H: Host>(alloc: Global, host: &mut H, run: Run) -> u8
     ensures on { GoesOn H.holds H.load_faults H.send_faults host.old host.new }
 {
     match prepare(alloc, host, run) {
-        Ok(inputs) => {
-            serving();
-            run_program(alloc, host, inputs, run.budget)
-        }
+        Ok(inputs) => run_inputs(alloc, host, inputs, run.budget),
         Err(refusal) => refuse(host, refusal),
+    }
+}
+
+// Runs the workload.
+fn run_workload<H: Host>(alloc: Global, host: &mut H, rounds: u32) -> u8
+    requires some { 0 < rounds }
+    requires most { rounds ≤ 1000 }
+    ensures ends { CommandEnds (moment H.holds H.sent H.load_faults H.send_faults host.old) (moment H.holds H.sent H.load_faults H.send_faults host.new) (ToGenerate rounds) result }
+    ensures on { GoesOn H.holds H.load_faults H.send_faults host.old host.new }
+{
+    match generate(alloc, rounds) {
+        Ok(inputs) => run_inputs(alloc, host, inputs, WORKLOAD_BUDGET),
+        Err(_) => refuse(host, Refusal::Memory),
     }
 }
 
@@ -199,7 +223,7 @@ fn assemble_file<H: Host>(alloc: Global, host: &mut H, name: &str) -> u8
 
 // Does what the words ask for.
 fn run_command<H: Host>(alloc: Global, host: &mut H, request: Request) -> u8
-    requires { HasBudget request }
+    requires { IsInRange request }
     ensures ends { CommandEnds (moment H.holds H.sent H.load_faults H.send_faults host.old) (moment H.holds H.sent H.load_faults H.send_faults host.new) (told request.entry) result }
     ensures on { GoesOn H.holds H.load_faults H.send_faults host.old host.new }
 {
@@ -208,6 +232,7 @@ fn run_command<H: Host>(alloc: Global, host: &mut H, request: Request) -> u8
         Request::Image => send_image(alloc, host),
         Request::Print(name) => print_file(alloc, host, name),
         Request::Assemble(name) => assemble_file(alloc, host, name),
+        Request::Generate(rounds) => run_workload(alloc, host, rounds),
     }
 }
 
@@ -218,7 +243,7 @@ fn run_command<H: Host>(alloc: Global, host: &mut H, request: Request) -> u8
 pub fn psxk<H: Host>(alloc: Global, words: &[&str], host: &mut H) -> u8
     ensures listed { IsStatus result }
 
-    // With status 0 or 1 all files were loaded and accepted, and exactly the texts of their run, or the one text of the command, were sent.
+    // With status 0 or 1 all files were loaded and accepted, and exactly the texts of the run, of theirs or of the workload, or the one text of the command, were sent.
     // A run is one of the written kernel machine with its program: each step of the user, each stay in the kernel, its console bytes and the user's memory at its end.
     // Each interrupt of it returns, or comes to the first function that it calls, in at most 8,192 steps behind the one that takes it: by the counts of its E and its X.
     ensures done { (result ≡ 0) ⊎ (result ≡ 1) → IfCommand words.now (λ c. IsDone H.holds H.sent host.old host.new c result) }

@@ -7,7 +7,6 @@ use Rattle.psx_base.specs.declared.host.Out.TheVariants.{Report}
 use Rattle.std.proofs.Common.{◌∙◌}
 use Rattle.psxk_run.proofs.Ends.{runs_from, says_from}
 use Rattle.psxk_run.proofs.Fronts.{part_from}
-use Rattle.psxk_run.proofs.KernelRuns.{kernel_run, in_time}
 use Rattle.psxk_run.proofs.Loading.{cause-later}
 use Rattle.psxk_run.proofs.top.run_files.Goals as goal
 
@@ -15,13 +14,16 @@ pub returns-in-Ok-clause-ends : goal.returns-in-Ok-clause-ends
 returns-in-Ok-clause-ends g c =
     let h = g.H.Host in
     let o = run_of c.in-Ok.inputs c.args.run.budget in
+    let r = c.run_inputs.ensures.ends in
     ByWork (record {
       inputs = c.in-Ok.inputs;
       given = c.in-Ok.ensures.given;
-      ran = runs_from (h.sent c.args.host.now) (h.sent c.prepare.new.host) (h.sent c.run_program.new.host) (h.send_faults c.args.host.now) (h.send_faults c.prepare.new.host) (h.send_faults c.run_program.new.host) o c.run_program.result c.prepare.ensures.sent c.prepare.ensures.on.sends c.run_program.ensures.ran;
-      fronts = part_from (h.sent c.args.host.now) (h.sent c.prepare.new.host) (h.sent c.run_program.new.host) o memory_line c.prepare.ensures.sent c.run_program.ensures.fronts;
-      kernel = kernel_run c.serving.ensures.runs c.in-Ok.inputs c.in-Ok.ensures.runnable c.args.run.budget;
-      in_time = in_time c.serving.ensures.in_time c.in-Ok.inputs c.in-Ok.ensures.runnable c.args.run.budget;
+      run = record {
+        ran = runs_from (h.sent c.args.host.now) (h.sent c.prepare.new.host) (h.sent c.run_inputs.new.host) (h.send_faults c.args.host.now) (h.send_faults c.prepare.new.host) (h.send_faults c.run_inputs.new.host) o c.run_inputs.result c.prepare.ensures.sent c.prepare.ensures.on.sends r.ran;
+        fronts = part_from (h.sent c.args.host.now) (h.sent c.prepare.new.host) (h.sent c.run_inputs.new.host) o memory_line c.prepare.ensures.sent r.fronts;
+        kernel = r.kernel;
+        in_time = r.in_time;
+      };
     })
 
 pub returns-in-Err-clause-ends : goal.returns-in-Err-clause-ends
