@@ -3,6 +3,8 @@
 #![tactic(auto)]
 
 #[cfg(test)]
+mod gen_runs;
+#[cfg(test)]
 mod hosts;
 #[cfg(test)]
 mod kept_registers;
