@@ -15,9 +15,6 @@ use Rattle.psx_exe.proofs.Accepted.{IsAccepted, IsSound}
 use Rattle.psx_exe.proofs.Written.{header_of-written, length-written, length-padding, read_of-ok}
 use Rattle.psx_gen.specs.Workload.{program, text}
 
-length-text : (rounds : ℕ) → length (text rounds) ≡ 460
-length-text rounds = refl
-
 small : (rounds : ℕ) → IsSmall (header_for (program rounds))
 small rounds = record { pc = omega arith; gp = omega arith; dest = omega arith; size = omega arith; fill_start = omega arith; fill_size = omega arith; sp_base = omega arith; sp_offset = omega arith }
 
