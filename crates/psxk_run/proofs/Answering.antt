@@ -75,7 +75,7 @@ module _ {H : Type 0} (holds : H → List ℕ → Option (List ℕ)) (sent : H �
   said-by status text (inl one) = inl one.0
   said-by status text (inr failed) = inr failed.0
 
-  said : (r : Refused) → (result ≡ refusals.status_of r.refusal) ⊎ (result ≡ 6)
+  pub said : (r : Refused) → (result ≡ refusals.status_of r.refusal) ⊎ (result ≡ 6)
   said r = said-by (refusals.status_of r.refusal) (line_of r.refusal) r.says
 
   because : (r : Refused) → Reason (holds old) (loads old) (loads new) c r.refusal

@@ -19,3 +19,4 @@ pub mod KernelRuns
 pub mod SameAnswer
 pub mod Statuses
 pub mod Answering
+pub mod Completing

@@ -12,10 +12,13 @@ use Rattle.psxk_run.specs.declared.configuration.ConfError.{ConfError}
 use Rattle.psxk_run.specs.declared.inputs.Inputs.{Inputs}
 use Rattle.psxk_run.specs.declared.refusal.Refusal.{Refusal}
 use Rattle.psxk_run.specs.declared.refusal.Refusal.TheVariants.{Program, Schedule, Config, Unread, Memory, Text}
+use Rattle.psx_board.specs.Run.{board_run}
+use Rattle.kern_image.specs.Rom.{rom}
 use Rattle.psxk_run.specs.Command.{RunWords}
 use Rattle.psxk_run.specs.Commands.{IsHindered, Answers, AnswersProgram, AnswersText}
 use Rattle.psxk_run.specs.Inputs.{IsLoaded, IsTold, GivesProgram, GivesEntries, GivesSchedule, GivesNumbers, GivesSizes, GivesAll, Gives, IsCause, OfProgram, GivesPlaced, OfText}
 use Rattle.psxk_run.specs.Refusals.{status_of}
+use Rattle.psxk_run.specs.Top.{run_of}
 use Rattle.psxk_run.proofs.ConfigAnswer as configurations
 use Rattle.psxk_run.specs.Assembling.{window_from, window_to}
 use Rattle.psx_asm.specs.declared.fault.AsmError.{AsmError}
@@ -44,6 +47,17 @@ sizes-same held (Some name) a b t l = numbers-same held name a b t l
 
 ok-err : {A E : Type 0} {x : A} {e : E} {P : Type 0} → ◌≡◌ {A = Result A E} (Ok x) (Err e) → P
 ok-err h = absurd cc
+
+ok-same : {A E : Type 0} {x y : A} → ◌≡◌ {A = Result A E} (Ok x) (Ok y) → x ≡ y
+ok-same h = cc
+
+pub run-same : (held : List ℕ → Option (List ℕ)) (c : RunWords) (a b : Inputs) → GivesAll (IsTold held) c a → GivesAll (IsLoaded held) c b → run_of a c.budget ≡ run_of b c.budget
+run-same held c a b t l =
+    let exe = ok-same (program-same held c.name (Ok a.exe) (Ok b.exe) t.program l.program) in
+    let sizes = ok-same (sizes-same held c.config (Ok a.sizes) (Ok b.sizes) t.sizes l.sizes) in
+    let schedule = ok-same (schedule-same held c.schedule (Ok a.schedule) (Ok b.schedule) t.schedule l.schedule) in
+    ap (λ (x : Exe). board_run rom x a.sizes a.schedule c.budget) exe ∙ ap (λ (x : Sizes). board_run rom b.exe x a.schedule c.budget) sizes
+    ∙ ap (λ (x : List Entry). board_run rom b.exe b.sizes x c.budget) schedule
 
 -- ---- what files decide
 

@@ -16,3 +16,4 @@ pub mod Commands
 pub mod Top
 pub mod InPart
 pub mod Ends
+pub mod Complete

@@ -9,6 +9,7 @@ ghost use Rattle.kern_image.specs.Rom.{rom};
 ghost use Rattle.abs_run.specs.Accepted.{IsAccepted};
 ghost use Rattle.psxk_run.specs.Command.{command_of, ToRun, ToPrint, ToAssemble, ToGenerate};
 ghost use Rattle.psxk_run.specs.Commands.{Decides};
+ghost use Rattle.psxk_run.specs.Complete.{IsUnhindered, Completes};
 ghost use Rattle.psxk_run.specs.Printing.{printing};
 ghost use Rattle.psxk_run.specs.Ends.{CommandEnds, EndsRun, moment};
 ghost use Rattle.psxk_run.specs.InPart.{HasFronts, ReportsFront, TextInPart, WordsInPart};
@@ -256,6 +257,9 @@ pub fn psxk<H: Host>(alloc: Global, words: &[&str], host: &mut H) -> u8
     ensures only { IfSome (command_of (words_of words.now)) (λ c. Decides (H.holds host.old) c result) }
     ensures read { result ≡ 5 → IfCommand words.now (λ c. IsUnread H.holds H.load_faults H.sent host.old host.new c) }
     ensures write { result ≡ 6 → Rose (H.send_faults host.old) (H.send_faults host.new) }
+
+    // Where the words are in a command's form, the host tells the files and they have no fault, and no load and no sending failed by its counts, the command is done: a run ends as the board's run does.
+    ensures complete { IsUnhindered (H.load_faults host.old) (H.load_faults host.new) (H.send_faults host.old) (H.send_faults host.new) → IfSome (command_of (words_of words.now)) (λ c. Completes (H.holds host.old) c result) }
 
     // What isn't done sends nothing but its report.
     ensures quiet { (result ≡ 2) ⊎ IsQuiet result → OnlyReports (H.sent host.old) (H.sent host.new) }

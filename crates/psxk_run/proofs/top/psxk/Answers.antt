@@ -1,5 +1,6 @@
 use Rattle.psxk_run.specs.Told.{told}
 use Rattle.psxk_run.proofs.Answering.{is-listed, is-done, is-refused, decides, is-unread, is-unsent, is-memory, in-part}
+use Rattle.psxk_run.proofs.Completing.{completes}
 use Rattle.psxk_run.proofs.top.psxk.Goals as goal
 
 pub returns-in-Some-clause-listed : goal.returns-in-Some-clause-listed
@@ -41,3 +42,8 @@ pub returns-in-Some-clause-fronts : goal.returns-in-Some-clause-fronts
 returns-in-Some-clause-fronts g c =
     let h = g.H.Host in
     rw (← c.in-Some.ensures.asked) (in-part h.holds h.sent h.load_faults h.send_faults c.args.host.now c.run_command.new.host c.run_command.result (told c.in-Some.request) c.run_command.ensures.ends)
+
+pub returns-in-Some-clause-complete : goal.returns-in-Some-clause-complete
+returns-in-Some-clause-complete g c =
+    let h = g.H.Host in
+    λ u. rw (← c.in-Some.ensures.asked) (completes h.holds h.sent h.load_faults h.send_faults c.args.host.now c.run_command.new.host c.run_command.result (told c.in-Some.request) c.run_command.ensures.ends u)
