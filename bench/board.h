@@ -1,5 +1,5 @@
 // A plain C interpreter of the board of docs/ports.md: what its three files share.
-// It is written from the documents alone, as a second opinion on psxk's board and as the least host that the image needs.
+// It is written from the documents and definitions, as a second opinion on psxk's board and as the least host that the image needs.
 #ifndef BOARD_H
 #define BOARD_H
 
