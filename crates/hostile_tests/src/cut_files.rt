@@ -1,7 +1,8 @@
 //! A program's file, cut to each length.
+use crate::hosts::{host_of, program};
 use psx_base::Out;
 use psxk_run::psxk;
-use test_hosts::{HELLO, RUN, host_of, program};
+use test_hosts::{HELLO, RUN};
 
 // The file of `HELLO` has 2,084 bytes, 2,048 of them its header. Each shorter front of it is refused, and nothing but the report is sent.
 #[test]
