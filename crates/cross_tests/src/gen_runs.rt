@@ -27,7 +27,7 @@ fn prints_the_sums_of_one_round(rt: HostRuntime) {
     let trace = host.sent(Out::Trace);
     assert!(rt; trace.starts_with(b"B 38941\n"));
     assert!(rt; trace.ends_with(b" Exit 00000000\n"));
-    assert!(rt; stands_in(trace, b"\nE 5000"));
+    assert!(rt; stands_in(trace, b"\nE 500105 00000400 000000B0 I 00000000\n"));
 }
 
 #[test]
