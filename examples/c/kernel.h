@@ -1,5 +1,5 @@
 /* The kernel's calls that are served, under their names of PSX-SPX. Each has a line here, with its numbers, what it does, and its answer, and a line in kernel.s.
-   A3C is number 3Ch of gate A0h. docs/calls.md of psxk says exactly what each call does, and which others there are to be.
+   A3C is number 3Ch of gate A0h. docs/calls.md of psxk says exactly what each call does.
    In the groups Numbers, Text and Memory a null pointer is answered with 0, and nothing is touched. A count has a sign for the kernel: from 80000000h on it means no bytes.
    An address that isn't user memory ends the run, with the stop BadPointer. */
 
