@@ -20,3 +20,4 @@ pub mod SameAnswer
 pub mod Statuses
 pub mod Answering
 pub mod Completing
+pub mod Numerals

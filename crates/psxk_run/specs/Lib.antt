@@ -3,6 +3,7 @@ pub mod Texts
 pub mod Pieces
 pub mod Underway
 pub mod Command
+pub mod Numbers
 pub mod Told
 pub mod Words
 pub mod Config

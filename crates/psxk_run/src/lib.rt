@@ -7,6 +7,7 @@ pub mod command;
 pub mod configuration;
 pub mod inputs;
 mod items;
+pub mod laws;
 mod lines;
 mod pieces;
 mod printing;
