@@ -14,12 +14,12 @@ use Rattle.psxk_run.specs.Printing.{printing}
 use Rattle.psxk_run.specs.Refusals.{line_of}
 use Rattle.psxk_run.specs.Refusals as refusals
 use Rattle.psxk_run.specs.Reports.{memory_line}
-use Rattle.psxk_run.specs.Sent.{Grew, Says, SentAlone}
-use Rattle.psxk_run.specs.Top.{Ran, Printed, IsDone, IsRefused, IsUnread, IsStatus, IsFaulty, run_of, RunsProgram, MakesText, Assembled}
+use Rattle.psxk_run.specs.Sent.{Grew, OnlyReports, Says, SentAlone}
+use Rattle.psxk_run.specs.Top.{Ran, Printed, IsDone, IsRefused, IsUnread, IsStatus, IsFaulty, IsQuiet, run_of, RunsProgram, MakesText, Assembled}
 use Rattle.psxk_run.specs.InPart.{ReportsFront, DoneInPart, SentInPart, InWork, InFault, InRead, InMemory}
 use Rattle.psxk_run.specs.Ends.{CommandEnds, ByWork, ByRefusal, EndsWork, EndsRun, EndsPrinting, EndsRefused, Moment, moment, EndsAssembling}
 use Rattle.psxk_run.proofs.SameAnswer.{answers-inputs, answers-refusal, answers-program, answers-no_program, answers-text, answers-no_text}
-use Rattle.psxk_run.proofs.Statuses.{Carried, carried, carried-status, text-status, carried-wrote, carried-memory, carried-five, listed-run, refusal-high, not-done, not-faulty, five-faulty}
+use Rattle.psxk_run.proofs.Statuses.{Carried, carried, carried-status, text-status, carried-wrote, carried-memory, carried-quiet, carried-five, quiet-range, listed-run, refusal-high, not-done, not-faulty, five-faulty}
 use Rattle.psxk_run.specs.Assembling.{assembling}
 
 -- why a command was refused, by the refusal
@@ -137,8 +137,12 @@ module _ {H : Type 0} (holds : H → List ℕ → Option (List ℕ)) (sent : H �
   is-memory (ByWork w) e = carried-memory (sent old) (sent new) (sends old) (sends new) result (work w) e
   is-memory (ByRefusal r) e = memory-by r.refusal r.says e
 
-  part-by : (refusal : Refusal) → Reason (holds old) (loads old) (loads new) c refusal → ReportsFront (sent old) (sent new) (line_of refusal) → SentInPart holds sent old new c
-  part-by (Unread name) cause report = InRead (record { name = name.now; named = cause.0; report = report })
+  pub is-quiet : Ended → (result ≡ 2) ⊎ IsQuiet result → OnlyReports (sent old) (sent new)
+  is-quiet (ByWork w) q = let k = quiet-range result q in carried-quiet (sent old) (sent new) (sends old) (sends new) result (work w) k.0 k.1
+  is-quiet (ByRefusal r) q = r.only
+
+  part-by : (refusal : Refusal) → Reason (holds old) (loads old) (loads new) c refusal → ReportsFront (sent old) (sent new) (line_of refusal) → SentInPart holds loads sent old new c
+  part-by (Unread name) cause report = InRead (record { name = name.now; named = cause.0; rose = cause.1; report = report })
   part-by Memory cause report = InMemory report
   part-by (Program fault) cause report = InFault (record { refusal = Program fault; given = cause; report = report })
   part-by (Schedule fault) cause report = InFault (record { refusal = Schedule fault; given = cause; report = report })
@@ -226,6 +230,6 @@ module _ {H : Type 0} (holds : H → List ℕ → Option (List ℕ)) (sent : H �
   part-work (ToAssemble name) w = record { placed = w.placed; given = w.given; text = w.text.front }
   part-work (ToGenerate rounds) w = w.fronts
 
-  pub in-part : (c : Command) → CommandEnds start last c result → SentInPart holds sent old new c
+  pub in-part : (c : Command) → CommandEnds start last c result → SentInPart holds loads sent old new c
   in-part c (ByWork w) = InWork (part-work c w)
   in-part c (ByRefusal r) = part-by holds sent loads sends old new c result r.refusal (because holds sent loads sends old new c result r) (record { only = r.only; report = r.front })

@@ -7,7 +7,7 @@ use Rattle.psx_base.specs.declared.stop.Stop.{Stop}
 use Rattle.psx_base.specs.Host.{SendsFront}
 use Rattle.psx_board.specs.Run.{Outcome}
 use Rattle.psxk_run.specs.Sent.{Grew, GrewFront, OnlyReports}
-use Rattle.psxk_run.specs.Texts.{trace_text, report_of, status_of, Delivers, BreaksOff}
+use Rattle.psxk_run.specs.Texts.{trace_text, ram_text, report_of, status_of, Delivers, BreaksOff}
 use Rattle.psxk_run.specs.Reports.{stop_line, memory_line}
 use Rattle.psxk_run.specs.InPart.{HasFronts, ReportsFront, TextInPart}
 use Rattle.psxk_run.proofs.Grew.{grew_more}
@@ -41,16 +41,18 @@ pub fronts_done : (old mid new : Out → Option (List ℕ)) (o : Outcome) (stop 
 fronts_done old mid new o stop is texts only report =
     let tty : Grew (old Tty) (new Tty) o.tty = rw (only Tty (λ e. cc)) texts.tty in
     let trace : Grew (old Trace) (new Trace) (trace_text o.items) = rw (only Trace (λ e. cc)) texts.trace in
+    let ram : Grew (old Ram) (new Ram) (ram_text o.last.core.bytes) = rw (only Ram (λ e. cc)) texts.ram in
     record {
       tty = front_whole _ _ _ tty;
       trace = front_whole _ _ _ trace;
-      ram = front_whole _ _ _ (rw (only Ram (λ e. cc)) texts.ram);
+      ram = front_whole _ _ _ ram;
       late = inr (tty, trace);
+      last = inr (tty, trace, ram);
       report = rw (← texts.report, ← is) report;
     }
 
 pub fronts_failed : (old new : Out → Option (List ℕ)) (o : Outcome) → BreaksOff old new o → HasFronts old new o
-fronts_failed old new o b = record { tty = b.tty; trace = b.trace; ram = b.ram; late = b.late; report = front_none (old Report) (new Report) (report_of o.stop) b.report }
+fronts_failed old new o b = record { tty = b.tty; trace = b.trace; ram = b.ram; late = b.late; last = inl b.report; report = front_none (old Report) (new Report) (report_of o.stop) b.report }
 
 -- ---- from an earlier moment with the same outputs
 
@@ -60,6 +62,7 @@ fronts_from old mid new o same h = record {
   trace = rw (← same Trace) h.trace;
   ram = rw (← same Ram) h.ram;
   late = rw (← same Ram, ← same Tty, ← same Trace) h.late;
+  last = rw (← same Report, ← same Tty, ← same Trace, ← same Ram) h.last;
   report = rw (← same Report) h.report;
 }
 

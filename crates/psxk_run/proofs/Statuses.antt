@@ -1,5 +1,5 @@
 -- Which statuses a command ends with.
-use Rattle.std.proofs.Common.{◌≡◌, ◌⊎◌, ℕ, ◌≤◌, List, Option, inl, inr, arith, ◌<◌}
+use Rattle.std.proofs.Common.{◌≡◌, ◌≢◌, ◌⊎◌, ℕ, ◌≤◌, List, Option, inl, inr, arith, ◌<◌}
 use Rattle.psx_base.specs.declared.host.Out.{Out}
 use Rattle.psx_base.specs.declared.host.Out.TheVariants.{Report}
 use Rattle.psx_base.specs.Host.{Rose}
@@ -10,9 +10,9 @@ use Rattle.psxk_run.specs.Command.{Command, ToRun, ToImage, ToPrint, ToAssemble,
 use Rattle.psxk_run.specs.Ends.{Moment, EndsWork}
 use Rattle.psxk_run.specs.Refusals as refusals
 use Rattle.psxk_run.specs.Reports.{memory_line}
-use Rattle.psxk_run.specs.Sent.{Grew}
+use Rattle.psxk_run.specs.Sent.{Grew, OnlyReports}
 use Rattle.psxk_run.specs.Texts.{status_of}
-use Rattle.psxk_run.specs.Top.{IsStatus, IsFaulty, RunsProgram, MakesText, WantsMemory}
+use Rattle.psxk_run.specs.Top.{IsStatus, IsFaulty, IsQuiet, RunsProgram, MakesText, WantsMemory}
 use Rattle.psxk_run.proofs.Ends.{status_of-le}
 
 -- a command that was carried out was done with status 0 or 1, or a sending failed, or memory was wanting
@@ -60,6 +60,11 @@ module _ (before now : Out → Option (List ℕ)) (fb fn status : ℕ) where
   carried-memory (inr (inl low)) e = absurd (omega (arith, low, e))
   carried-memory (inr (inr failed)) e = absurd (omega (arith, failed.0, e))
 
+  pub carried-quiet : Carried before now fb fn status → 1 < status → status ≢ 6 → OnlyReports before now
+  carried-quiet (inl memory) high other = memory.1
+  carried-quiet (inr (inl low)) high other = absurd (omega (arith, low, high))
+  carried-quiet (inr (inr failed)) high other = absurd (other failed.0)
+
   pub carried-five : {P : Type 0} → Carried before now fb fn status → status ≡ 5 → P
   carried-five (inl memory) e = absurd (omega (arith, memory.0, e))
   carried-five (inr (inl low)) e = absurd (omega (arith, low, e))
@@ -105,3 +110,10 @@ not-faulty result (inr (inr e)) f = outside result (omega (arith, e)) (omega (ar
 
 pub five-faulty : {P : Type 0} (result : ℕ) → result ≡ 5 → IsFaulty result → P
 five-faulty result e f = outside result (omega (arith, e)) (omega (arith, e)) (faulty-range result f).1
+
+-- a status that comes with its report alone is above 1, and isn't that of a failed sending
+pub quiet-range : (result : ℕ) → (result ≡ 2) ⊎ IsQuiet result → (1 < result) × (result ≢ 6)
+quiet-range result (inl e) = (omega (arith, e), λ six. omega (arith, e, six))
+quiet-range result (inr (inl f)) = (let some = (faulty-range result f).0 in omega (arith, some), λ six. outside result (omega (arith, six)) (omega (arith, six)) (faulty-range result f).1)
+quiet-range result (inr (inr (inl e))) = (omega (arith, e), λ six. omega (arith, e, six))
+quiet-range result (inr (inr (inr e))) = (omega (arith, e), λ six. omega (arith, e, six))

@@ -2,6 +2,7 @@
 use Rattle.std.specs.Prelude.{◌≡◌, ◌⊎◌, ℕ, List, Option, Some, None, Ok}
 use Rattle.psx_base.specs.declared.host.Out.{Out}
 use Rattle.psx_base.specs.declared.host.Out.TheVariants.{Tty, Trace, Ram, Report}
+use Rattle.psx_base.specs.Host.{Rose}
 use Rattle.psx_board.specs.Run.{Outcome}
 use Rattle.psxk_run.specs.declared.inputs.Inputs.{Inputs}
 use Rattle.psxk_run.specs.declared.refusal.Refusal.{Refusal}
@@ -24,12 +25,13 @@ pub record ReportsFront (before now : Out → Option (List ℕ)) (line : List �
   pub only : OnlyReports before now
   pub report : GrewFront (before Report) (now Report) line
 
--- of each text of a run a front was sent, and of the memory a byte only where Tty and Trace are whole
+-- of each text of a run a front was sent; of the memory a byte only where Tty and Trace are whole, and of the report only where all three are: behind a send that failed none of these begins
 pub record HasFronts (before now : Out → Option (List ℕ)) (o : Outcome) : Type 0 where
   pub tty : GrewFront (before Tty) (now Tty) o.tty
   pub trace : GrewFront (before Trace) (now Trace) (trace_text o.items)
   pub ram : GrewFront (before Ram) (now Ram) (ram_text o.last.core.bytes)
   pub late : (now Ram ≡ before Ram) ⊎ (Grew (before Tty) (now Tty) o.tty × Grew (before Trace) (now Trace) (trace_text o.items))
+  pub last : (now Report ≡ before Report) ⊎ (Grew (before Tty) (now Tty) o.tty × Grew (before Trace) (now Trace) (trace_text o.items) × Grew (before Ram) (now Ram) (ram_text o.last.core.bytes))
   pub report : GrewFront (before Report) (now Report) (report_of o.stop)
 
 -- of a run's texts fronts were sent, or of the line of want of memory
@@ -72,20 +74,21 @@ pub record RefusedInPart {H : Type 0} (holds : H → List ℕ → Option (List �
   pub given : Refuses (IsLoaded (holds old)) c refusal
   pub report : ReportsFront (sent old) (sent new) (line_of refusal)
 
--- a name that the words give wasn't loaded, though the files before it were accepted, and of its line a front was reported
-pub record UnreadInPart {H : Type 0} (holds : H → List ℕ → Option (List ℕ)) (sent : H → Out → Option (List ℕ)) (old new : H) (c : Command) : Type 0 where
+-- a name that the words give wasn't loaded, though the files before it were accepted: its count rose, and of its line a front was reported
+pub record UnreadInPart {H : Type 0} (holds : H → List ℕ → Option (List ℕ)) (load_faults : H → List ℕ → ℕ) (sent : H → Out → Option (List ℕ)) (old new : H) (c : Command) : Type 0 where
   pub name : List ℕ
   pub named : Loads (IsLoaded (holds old)) c name
+  pub rose : Rose (load_faults old name) (load_faults new name)
   pub report : ReportsFront (sent old) (sent new) (read_line name)
 
 -- what a command has sent
-pub data SentInPart {H : Type 0} (holds : H → List ℕ → Option (List ℕ)) (sent : H → Out → Option (List ℕ)) (old new : H) (c : Command) : Type 0 where
-  InWork : DoneInPart holds sent old new c → SentInPart holds sent old new c
-  InFault : RefusedInPart holds sent old new c → SentInPart holds sent old new c
-  InRead : UnreadInPart holds sent old new c → SentInPart holds sent old new c
-  InMemory : ReportsFront (sent old) (sent new) memory_line → SentInPart holds sent old new c
+pub data SentInPart {H : Type 0} (holds : H → List ℕ → Option (List ℕ)) (load_faults : H → List ℕ → ℕ) (sent : H → Out → Option (List ℕ)) (old new : H) (c : Command) : Type 0 where
+  InWork : DoneInPart holds sent old new c → SentInPart holds load_faults sent old new c
+  InFault : RefusedInPart holds sent old new c → SentInPart holds load_faults sent old new c
+  InRead : UnreadInPart holds load_faults sent old new c → SentInPart holds load_faults sent old new c
+  InMemory : ReportsFront (sent old) (sent new) memory_line → SentInPart holds load_faults sent old new c
 
 -- what was sent for the words
-abbrev pub WordsInPart : {H : Type 0} → (H → List ℕ → Option (List ℕ)) → (H → Out → Option (List ℕ)) → H → H → Option Command → Type 0
-WordsInPart holds sent old new None = ReportsFront (sent old) (sent new) usage_line
-WordsInPart holds sent old new (Some c) = SentInPart holds sent old new c
+abbrev pub WordsInPart : {H : Type 0} → (H → List ℕ → Option (List ℕ)) → (H → List ℕ → ℕ) → (H → Out → Option (List ℕ)) → H → H → Option Command → Type 0
+WordsInPart holds load_faults sent old new None = ReportsFront (sent old) (sent new) usage_line
+WordsInPart holds load_faults sent old new (Some c) = SentInPart holds load_faults sent old new c

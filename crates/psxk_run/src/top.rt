@@ -266,8 +266,9 @@ pub fn psxk<H: Host>(alloc: Global, words: &[&str], host: &mut H) -> u8
     ensures report_usage { result ≡ 2 → Grew (H.sent host.old Out.Report) (H.sent host.new Out.Report) usage_line }
     ensures report_memory { result ≡ 7 → Grew (H.sent host.old Out.Report) (H.sent host.new Out.Report) memory_line }
 
-    // In every case each output has a front of its text more, and Ram a byte only where Tty and Trace are whole.
-    ensures fronts { WordsInPart H.holds H.sent host.old host.new (command_of (words_of words.now)) }
+    // In every case each output has a front of its text more, Ram a byte only where Tty and Trace are whole, and Report one of a run's stop only where Ram is whole too.
+    // Where the report of a file that wasn't read breaks off, its count of loads rose too.
+    ensures fronts { WordsInPart H.holds H.load_faults H.sent host.old host.new (command_of (words_of words.now)) }
     ensures on { GoesOn H.holds H.load_faults H.send_faults host.old host.new }
 {
     match command(words) {

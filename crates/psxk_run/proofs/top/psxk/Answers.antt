@@ -1,5 +1,5 @@
 use Rattle.psxk_run.specs.Told.{told}
-use Rattle.psxk_run.proofs.Answering.{is-listed, is-done, is-refused, decides, is-unread, is-unsent, is-memory, in-part}
+use Rattle.psxk_run.proofs.Answering.{is-listed, is-done, is-refused, decides, is-unread, is-unsent, is-memory, is-quiet, in-part}
 use Rattle.psxk_run.proofs.Completing.{completes}
 use Rattle.psxk_run.proofs.top.psxk.Goals as goal
 
@@ -37,6 +37,11 @@ pub returns-in-Some-clause-report_memory : goal.returns-in-Some-clause-report_me
 returns-in-Some-clause-report_memory g c =
     let h = g.H.Host in
     is-memory h.holds h.sent h.load_faults h.send_faults c.args.host.now c.run_command.new.host (told c.in-Some.request) c.run_command.result c.run_command.ensures.ends
+
+pub returns-in-Some-clause-quiet : goal.returns-in-Some-clause-quiet
+returns-in-Some-clause-quiet g c =
+    let h = g.H.Host in
+    is-quiet h.holds h.sent h.load_faults h.send_faults c.args.host.now c.run_command.new.host (told c.in-Some.request) c.run_command.result c.run_command.ensures.ends
 
 pub returns-in-Some-clause-fronts : goal.returns-in-Some-clause-fronts
 returns-in-Some-clause-fronts g c =
