@@ -61,7 +61,7 @@ read_back before (c ∷ cs) d small =
     let v : digit_value c ≡ c - 48 = digit_is c k.0 k.1 in
     let low : before ≤ 4000000000 = omega (arith, small, no_smaller (before * 10 + digit_value c) cs) in
     let more : value_of (before * 10 + (c - 48)) cs ≡ Some (digits_value_after 10 (before * 10 + digit_value c) cs) =
-        ap (λ m. value_of (before * 10 + m) cs) (sym v) ∙ read_back (before * 10 + digit_value c) cs d.1 small in
+    ap (λ m. value_of (before * 10 + m) cs) (sym v) ∙ read_back (before * 10 + digit_value c) cs d.1 small in
     rw (le-leb before 4000000000 low, le-leb 48 c k.0, le-leb c 57 k.1) more
 
 -- ---- budgets
@@ -79,7 +79,7 @@ budget-read (c ∷ cs) n e =
     let value : digits_value 10 (c ∷ cs) ≡ n = r.1.0 in
     let most : n ≤ 4000000000 = r.1.1 in
     let whole : decimal (digits_value 10 (c ∷ cs)) ≡ c ∷ cs =
-        decimal-digits_value (numerals_by_value (AllDigits 10) tells_digits) (c ∷ cs) r.0 (omega arith) (λ z. absurd (no z)) (omega arith) in
+    decimal-digits_value (numerals_by_value (AllDigits 10) tells_digits) (c ∷ cs) r.0 (omega arith) (λ z. absurd (no z)) (omega arith) in
     ((omega arith, most), sym whole ∙ ap decimal value)
 
 budget-first : (ds : List ℕ) → 48 < get_or ds 0 0 → AllDigits 10 ds → digits_value 10 ds ≤ 4000000000 → budget_of ds ≡ Some (digits_value 10 ds)
