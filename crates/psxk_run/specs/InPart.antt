@@ -25,7 +25,7 @@ pub record ReportsFront (before now : Out → Option (List ℕ)) (line : List �
   pub only : OnlyReports before now
   pub report : GrewFront (before Report) (now Report) line
 
--- of each text of a run a front was sent; of the memory a byte only where Tty and Trace are whole, and of the report only where all three are: behind a send that failed none of these begins
+-- of each text of a run a front was sent; of the memory a byte only where Tty and Trace are whole, and of the report only where all three are
 pub record HasFronts (before now : Out → Option (List ℕ)) (o : Outcome) : Type 0 where
   pub tty : GrewFront (before Tty) (now Tty) o.tty
   pub trace : GrewFront (before Trace) (now Trace) (trace_text o.items)
