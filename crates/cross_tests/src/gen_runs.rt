@@ -4,8 +4,8 @@ use psxk_run::psxk;
 use std::process::Abort;
 use test_hosts::stands_in;
 
-/// Room for the trace of a hundred rounds, most of which is of tries of the call that waits.
-const ROOM: usize = 16_000_000;
+/// Room for the trace of a thousand rounds, most of which is of tries of the call that waits.
+const ROOM: usize = 26_000_000;
 
 // The host behind a run of so many rounds, which ends well.
 fn runs<R: AllocGlobal + Abort>(rt: &R, rounds: &str) -> MemoryHost {
@@ -39,6 +39,19 @@ fn prints_the_sums_of_a_hundred_rounds_the_same_each_time(rt: HostRuntime) {
     assert_eq!(rt; again.sent(Out::Tty), host.sent(Out::Tty));
     assert!(rt; again.sent(Out::Trace) == host.sent(Out::Trace));
     assert!(rt; again.sent(Out::Ram) == host.sent(Out::Ram));
+}
+
+#[test]
+fn prints_the_sums_of_a_thousand_rounds(rt: HostRuntime) {
+    let host = runs(&rt, "1000");
+    assert_eq!(rt;
+        host.sent(Out::Tty),
+        b"n=1000 a=500500 h=125500\n".as_slice()
+    );
+    assert!(rt;
+        host.sent(Out::Trace)
+            .ends_with(b"\nS 10493395 Exit 00000000\n")
+    );
 }
 
 #[test]
