@@ -13,9 +13,13 @@ mod console_edges;
 #[cfg(test)]
 mod copy_calls;
 #[cfg(test)]
+mod counter_events;
+#[cfg(test)]
 mod delivered;
 #[cfg(test)]
 mod delivery_calls;
+#[cfg(test)]
+mod element_calls;
 #[cfg(test)]
 mod event_calls;
 #[cfg(test)]
@@ -44,6 +48,8 @@ mod memory_edges;
 mod number_calls;
 #[cfg(test)]
 mod printf_calls;
+#[cfg(test)]
+mod return_calls;
 #[cfg(test)]
 mod said;
 #[cfg(test)]

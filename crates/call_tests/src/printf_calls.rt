@@ -160,6 +160,25 @@ ends:   .asciiz \"ab%-5\"
     );
 }
 
+// Precision 1 with value 0, the flag 0 where no width is, and a precision above any text.
+#[test]
+fn small_widths_and_precisions(rt: HostRuntime) {
+    const TEXT: &[u8] = b"
+rows:   .word   small 0 0 abc 5 6 7 abc
+        .word   great abc abc 65 0 0 0 0
+        .word   0 0 0
+small:  .asciiz \"%.1d|%.1x|%.1s|%1.1d|%00d|%-0d|%-00s\\n\"
+great:  .asciiz \"%.4000000000s|%.255s|%.256c\\n\"
+abc:    .asciiz \"abc\"
+";
+    prints(
+        &rt,
+        TEXT,
+        b"0|0|a|5|6|7|abc\nabc|abc|A\n",
+        b" Exit 0000001A\n",
+    );
+}
+
 // A width and a precision above 255 are 255.
 #[test]
 fn wide_texts(rt: HostRuntime) {

@@ -293,6 +293,25 @@ numbers: .word  2, 6, 4, 5, 0
     ends(&rt, text, b" Exit 00E38F3C\n");
 }
 
+// It reads no port and writes none.
+#[test]
+fn init_timer_of_a_fourth_counter_does_nothing(rt: HostRuntime) {
+    const TEXT: &[u8] = b"
+start:  li      r9, 0x02
+        li      r4, 3
+        li      r5, 0
+        jal     b
+        li      r6, 0
+        b       exit
+        move    r4, r2
+";
+    let host = ran(&rt, TEXT);
+    let trace = host.sent(Out::Trace);
+    assert!(rt; trace.ends_with(b" Exit 00000000\n"));
+    let told = accesses(&rt, trace);
+    assert!(rt; told.is_empty(), "{told:?}");
+}
+
 // An interrupt of counter 2 comes where its line is let through, and none where it is masked again before interrupts are on.
 #[test]
 fn an_interrupt_comes_where_it_is_let_through(rt: HostRuntime) {
